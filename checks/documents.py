@@ -17,6 +17,7 @@ MANUAL_TABLES = [
     ("WORDS", "## Lines and words"),
     ("LINES", "## What a line says"),
     ("SUPPOSITIONS", "## Suppositions"),
+    ("TIMELINES", "## A timeline"),
     ("EXIT STATUS", "## Words and endings"),
 ]
 

@@ -170,10 +170,14 @@ class Proving(unittest.TestCase):
         self.order("try", 'echo "$@"; cat; echo "run=ended status=0 runners=1 proved=no" >&2\n')
         self.assertEqual(self.run_script("tmm", "suppose").stdout, "try -- suppose\npoint a\n")
 
+    def test_a_timeline_is_answered_by_a_try(self) -> None:
+        self.order("try", 'echo "$@"; cat; echo "run=ended status=0 runners=1 proved=no" >&2\n')
+        self.assertEqual(self.run_script("tmm", "timeline").stdout, "try -- timeline\npoint a\n")
+
     def test_other_words(self) -> None:
         program = (ROOT / "crates" / "tmm_program" / "specs" / "Program.antt").read_text(encoding="utf-8")
         usage = re.search(r'"(usage: .*)\\n"', program)
-        for words in (["--help"], ["word"], [""], ["suppose", "more"]):
+        for words in (["--help"], ["word"], [""], ["suppose", "more"], ["timeline", "suppose"]):
             ran = self.run_script("tmm", *words)
             self.assertEqual((ran.returncode, ran.stdout), (2, f"{usage and usage.group(1)}\n"))
         self.assertEqual(self.take_calls(), [])

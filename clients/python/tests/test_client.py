@@ -305,7 +305,7 @@ class ParseTest(unittest.TestCase):
             "1 bounds 0 0\n  in e\n",
             "1 yes k\n  k late\n",
             "1 memory\n  k late\n",
-            "usage: tmm [demo N | suppose], N from 1 to 1000\n",
+            "usage: tmm [demo N | suppose | timeline], N from 1 to 1000\n",
         ):
             with self.subTest(text=text), self.assertRaises(tmm.ProtocolError):
                 list(tmm.parse_replies(text))

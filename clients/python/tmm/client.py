@@ -9,7 +9,7 @@ from tmm import explain, words
 from tmm.errors import ALL_ANSWERED, OutOfMemory, ProgramEnded, ProtocolError, TimedOut, TmmError, refused
 from tmm.explain import Threats, WhyNot
 from tmm.handles import New
-from tmm.program import SUPPOSE, find_program, modes_of
+from tmm.program import SUPPOSE, TIMELINE, find_program, modes_of
 from tmm.replies import parse_replies, parse_reply
 from tmm.stream import Stream, shown
 from tmm.values import (
@@ -30,6 +30,7 @@ from tmm.values import (
     Reply,
     Row,
     Size,
+    Timeline,
     Verdict,
     Walk,
     Why,
@@ -53,7 +54,9 @@ FIRST_HORIZON = 1000
 # So many suppositions may stand on top of each other.
 MOST_SUPPOSITIONS = 8
 
-ReplyKind = TypeVar("ReplyKind", Changes, Bounds, Walk, Answer, Why, Check, Listing, Dump, Size, Audit)
+ReplyKind = TypeVar(
+    "ReplyKind", Changes, Bounds, Walk, Answer, Why, Check, Listing, Timeline, Dump, Size, Audit
+)
 
 # Called after each line with it and its reply, None for a comment or a blank line.
 Log = Callable[[str, Optional[Reply]], None]
@@ -159,6 +162,8 @@ class TimeMap:
         if len(words_given) == 1 and SUPPOSE in modes_of(words_given[0], timeout):
             words_given.append(SUPPOSE)
         self._has_suppositions = words_given[1:] == [SUPPOSE]
+        self._command = words_given
+        self._timeout = timeout
         self._stream = Stream(words_given, timeout)
         self._log = log
         self._lines_given = 0
@@ -565,6 +570,26 @@ class TimeMap:
     def list(self) -> Tuple[Row, ...]:
         """All believed occurrences, by their earliest dates."""
         return self._answer(Listing, "list", "list").rows
+
+    def timeline(self) -> Timeline:
+        """What happens where each point comes at its earliest date, and each effect after its least delay.
+
+        A program in the mode `timeline` is asked itself. Else what stands is given to one that is started in
+        that mode for it. Raises `Refused` where too much happens, and `TmmError` for a program that has no
+        such mode.
+        """
+        if self._command[1:] == [TIMELINE]:
+            return self._answer(Timeline, "timeline", "timeline")
+        program = self._command[0]
+        if TIMELINE not in modes_of(program, self._timeout):
+            raise TmmError(f"{program} tells no timeline")
+        standing = self._standing
+        lines = ["tmm 2"] if standing.version == 2 else []
+        # Up to the date 0 no rule brings about anything, so that nothing is too large on the way.
+        lines += ["horizon 0", *standing.premises.values(), f"horizon {standing.horizon}"]
+        with TimeMap([program, TIMELINE], timeout=self._timeout) as played:
+            played._answers(Changes, lines)
+            return played.timeline()
 
     def dump(self) -> Dump:
         """The horizon, and the standing premises as lines of a script."""

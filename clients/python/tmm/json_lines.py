@@ -31,6 +31,7 @@ from tmm.values import (
     Refusal,
     Reply,
     Size,
+    Timeline,
     Walk,
     Why,
 )
@@ -46,6 +47,7 @@ KINDS: Dict[Type[object], str] = {
     Why: "why",
     Check: "check",
     Listing: "list",
+    Timeline: "timeline",
     Dump: "dump",
     Size: "size",
     Audit: "audit",

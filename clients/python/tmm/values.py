@@ -190,6 +190,36 @@ class Listing:
 
 
 @dataclass(frozen=True)
+class PointDate:
+    """A declared point, and its date in a timeline: its earliest."""
+
+    point: str
+    date: int
+
+
+@dataclass(frozen=True)
+class Dated:
+    """What occurs on a date of a timeline: its name, and its kind or fact.
+
+    A token holds until the date `until`, None where it lasts; an event has none.
+    """
+
+    date: int
+    occurrence: str
+    what: str
+    is_token: bool = False
+    until: Optional[int] = None
+
+
+@dataclass(frozen=True)
+class Timeline:
+    """What happens where each point comes at its earliest date, by date and then by name."""
+
+    points: Tuple[PointDate, ...] = ()
+    rows: Tuple[Dated, ...] = ()
+
+
+@dataclass(frozen=True)
 class Dump:
     """The horizon, and the standing premises, each as the line that declares it; and the version."""
 
@@ -246,4 +276,6 @@ class NoMemory:
     """There was no memory for a line, and nothing has changed."""
 
 
-Reply = Union[Changes, Bounds, Walk, Answer, Why, Check, Listing, Dump, Size, Audit, Refusal, NoMemory]
+Reply = Union[
+    Changes, Bounds, Walk, Answer, Why, Check, Listing, Timeline, Dump, Size, Audit, Refusal, NoMemory
+]

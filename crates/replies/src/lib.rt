@@ -13,6 +13,7 @@ mod memory;
 mod modes;
 mod questions;
 mod reasons;
+mod timelines;
 mod words;
 
 pub use dump::reply_dump;
@@ -23,3 +24,4 @@ pub use questions::{
     Word, reply_answer, reply_bounds, reply_check, reply_list, reply_number, reply_path, reply_why,
 };
 pub use reasons::put_reason;
+pub use timelines::reply_timeline;

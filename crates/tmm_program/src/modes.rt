@@ -21,6 +21,8 @@ fn mode_named(word: &[u8]) -> Option<Mode>
 {
     if word == b"suppose".as_slice() {
         Some(Mode::Suppose)
+    } else if word == b"timeline".as_slice() {
+        Some(Mode::Timeline)
     } else {
         None
     }

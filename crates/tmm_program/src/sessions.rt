@@ -2,12 +2,14 @@
 ghost use Rattle.std.specs.Prelude.{IfOk, ◌≡◌, None};
 ghost use Rattle.suppose.specs.Stacks.{IsSettled, world_of};
 ghost use Rattle.suppose.specs.Worlds.{first_world};
+ghost use Rattle.timeline.specs.Steps.{IsReady};
 ghost use Rattle.tmm_model.specs.Standing.{empty_list};
 
 use map_core::{Copies, Opens};
 use mode_session::ModeSession;
 use std::alloc::Global;
 use suppose::Supposing;
+use timeline::Dating;
 use tmm_model::NoMemory;
 use tmm_session::Session;
 
@@ -30,5 +32,17 @@ pub(crate) fn suppose_session<M: Opens + Copies + Drop>(
     ensures ready { IfOk result (λ session. IsSettled M.pending session.inner.stack) }
 {
     let inner = Supposing::make(alloc)?;
+    Ok(ModeSession::make(inner))
+}
+
+/// A session with the timeline, over the empty map.
+pub(crate) fn timeline_session<M: Opens + Drop>(
+    alloc: Global,
+) -> Result<ModeSession<Dating<M>>, NoMemory>
+    ensures first { IfOk result (λ session. M.list session.inner.core ≡ empty_list) }
+    ensures number { IfOk result (λ session. session.lines ≡ 0) }
+    ensures ready { IfOk result (λ session. IsReady M.list M.pending session.inner.core) }
+{
+    let inner = Dating::make(alloc)?;
     Ok(ModeSession::make(inner))
 }
