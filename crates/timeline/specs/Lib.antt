@@ -4,5 +4,7 @@ pub mod Rows
 pub mod Holding
 pub mod Kinds
 pub mod Calendars
+pub mod Until
+pub mod Entries
 pub mod Steps
 pub mod Laws

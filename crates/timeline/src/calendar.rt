@@ -110,6 +110,7 @@ fn put(days: &mut Vec<Vec<Row>>, day: usize, row: Row) -> Result<(), NoMemory>
 pub(crate) fn take_out(alloc: Global, days: &mut Vec<Vec<Row>>, day: usize) -> Vec<Row>
     requires { day < length days.old.items }
     ensures taken { result.items ≡ rows_on days.old.items day }
+    ensures none { rows_on days.new.items day ≡ [] }
     ensures len { length days.new.items ≡ length days.old.items }
     ensures others { (i : ℕ) → i ≢ day → rows_on days.new.items i ≡ rows_on days.old.items i }
 {

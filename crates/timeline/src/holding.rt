@@ -55,7 +55,8 @@ fn goes_on(standing: &Standing, day: u32, coming: &[Held], held: &Held) -> bool
     }
 }
 
-fn is_same(a: &Held, b: &Held) -> bool
+/// Whether two tokens are of one fact, one class and one end.
+pub(crate) fn is_same(a: &Held, b: &Held) -> bool
     ensures { result ≡ same_held a.now b.now }
 {
     a.fact == b.fact && a.class == b.class && is_same_end(a.end, b.end)

@@ -10,28 +10,38 @@
 
 mod calendar;
 mod dates;
+mod entry;
 mod holding;
 mod kinds;
 mod laws;
+mod listing;
 mod mode;
 mod playing;
 mod roots;
 mod row;
 mod rule;
+mod until;
 
-ghost use Rattle.std.specs.Prelude.{◌≡◌, ◌≤◌, None, IfOk, IfErr, OnOk};
+ghost use Rattle.std.specs.Prelude.{◌≡◌, ◌≤◌, suc, None, IfOk, IfErr, OnOk};
 ghost use Rattle.tmm_model.specs.Answers.{most_size};
 ghost use Rattle.tmm_model.specs.Maps.{built};
 ghost use Rattle.belief_theory.specs.KeptLists.{IsKept};
+ghost use Rattle.timeline.specs.Calendars.{IsBefore};
 ghost use Rattle.timeline.specs.Days.{played_size};
 ghost use Rattle.timeline.specs.Told.{IsTimeline, StopsTimeline};
 
 pub use laws::{dates_satisfy_constraints, played_is_believed};
 pub use mode::Dating;
 
+use crate::calendar::Calendar;
+use crate::dates::point_dates;
+use crate::kinds::RulesByKind;
+use crate::listing::listed;
+use crate::playing::play;
+use crate::roots::declared;
 use map_core::MapCore;
 use std::alloc::Global;
-use tmm_model::{Seq, Stop, Timeline};
+use tmm_model::{Stop, Timeline};
 
 /// What happens where each point comes at its earliest date. Where that is of more than 100,000 in
 /// size it is refused; without memory it answers that.
@@ -42,9 +52,21 @@ pub fn timeline<M: MapCore>(alloc: Global, core: &M) -> Result<Timeline, Stop>
     ensures small { OnOk result (played_size (built (M.list core.now)) ≤ most_size) }
     ensures stops { IfErr result (StopsTimeline (built (M.list core.now))) }
 {
-    let _ = core;
-    Ok(Timeline {
-        points: Seq::make(alloc),
-        rows: Seq::make(alloc),
-    })
+    let rules = RulesByKind::of(alloc, core.standing())?;
+    let mut calendar = declared(alloc, core, &rules)?;
+    play(alloc, core.standing(), &rules, &mut calendar)?;
+    told(alloc, core, &calendar)
+}
+
+// The timeline of what was played.
+fn told<M: MapCore>(alloc: Global, core: &M, calendar: &Calendar) -> Result<Timeline, Stop>
+    requires idle { M.pending core.now ≡ None }
+    requires kept { IsKept (M.list core.now) }
+    requires played { IsBefore (built (M.list core.now)) (suc (M.list core.now).horizon) calendar.now }
+    ensures told { IfOk result (IsTimeline (built (M.list core.now))) }
+    ensures stops { IfErr result (StopsTimeline (built (M.list core.now))) }
+{
+    let points = point_dates(alloc, core)?;
+    let rows = listed(alloc, core.standing(), calendar)?;
+    Ok(Timeline { points, rows })
 }

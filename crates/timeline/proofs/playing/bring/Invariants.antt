@@ -1,17 +1,13 @@
-use Rattle.std.proofs.Common.{◌≡◌, ◌+◌, ◌<◌, ◌≤◌, ℕ, suc, pos, ◌≤ℤ◌, ◌+ℤ◌, int_le, [], ◌∷◌, map, filter, length, sum_by, IfOk, IfErr, OnOk, ◌-◌, ◌*◌}
-use Rattle.std.specs.List.{Contains, flat_map}
-use Rattle.tmm_model.specs.Answers.{weight, most_size}
-use Rattle.tmm_model.specs.Beliefs.{rules_at}
+use Rattle.std.proofs.Common.{map, take}
 use Rattle.tmm_model.specs.Maps.{built}
-use Rattle.tmm_model.specs.Moments.{After}
-use Rattle.belief_theory.specs.KeptLists.{IsKept}
-use Rattle.timeline.specs.Calendars.{Brought, IsBefore, AreHeldBefore}
-use Rattle.timeline.specs.Days.{brings_about, effects_of, played_size}
-use Rattle.timeline.specs.Holding.{is_held, IsHeldOn}
-use Rattle.timeline.specs.Kinds.{AreRules, IsRuleAt, name_at, SaysRule}
-use Rattle.timeline.specs.Rows.{IsRowOf, AreRowsOf, moment, helds}
-use Rattle.timeline.specs.Told.{IsTooLarge, StopsTimeline}
+use Rattle.timeline.specs.Calendars.{Brought}
+use Rattle.timeline.specs.Holding.{is_held}
+use Rattle.timeline.specs.Kinds.{name_at}
+use Rattle.timeline.specs.Rows.{moment}
+use Rattle.timeline.proofs.Bringing.{brought}
 use Rattle.timeline.proofs.playing.bring.Given as goal
 
 abbrev pub invariant-loop-place : goal.invariant-loop-place
-invariant-loop-place l = ?
+invariant-loop-place l =
+    Brought (built l.standing.present) (brought (built l.standing.present) (is_held l.holding) (moment l.trigger) (map (name_at l.standing.present) (take l.place-index l.place-items)))
+    l.fn.calendar l.calendar
