@@ -67,6 +67,24 @@ class RowsTest(unittest.TestCase):
             ],
         )
 
+    def test_a_timeline(self) -> None:
+        with tmm.TimeMap() as time_map:
+            picture.run_lines(time_map, DOOR)
+            rows = picture.rows_of(time_map, rows=["door, played", "day, played", "push, played"], timeline=True)
+            self.assertEqual(
+                [row.items for row in rows],
+                [
+                    [
+                        Item(Look.CLIPPED, 0, 11, "open held", 0),
+                        Item(Look.LASTING, 11, None, "shut e/shuts", 1),
+                    ],
+                    [Item(Look.SPAN, 5, 20, "light sun", 0)],
+                    [Item(Look.MARK, 10, 10, "e")],
+                ],
+            )
+            names = [row.name for row in picture.rows_of(time_map, timeline=True)]
+        self.assertEqual(names, ["points", "door", "door, played", "day", "day, played", "push", "push, played"])
+
     def test_an_interval_that_is_out_of_order(self) -> None:
         # `early` may be before `late` or not, and its earliest date is the later one
         rows = rows_after(

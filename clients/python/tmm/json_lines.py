@@ -34,6 +34,7 @@ from tmm.values import (
     Refusal,
     Reply,
     Size,
+    Timeline,
     Walk,
     Why,
 )
@@ -49,6 +50,7 @@ KINDS: Dict[Type[object], str] = {
     Why: "why",
     Check: "check",
     Listing: "list",
+    Timeline: "timeline",
     Dump: "dump",
     Size: "size",
     Audit: "audit",

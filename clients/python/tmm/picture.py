@@ -1,6 +1,6 @@
 """Draws what a map believes, over the earliest dates, as an SVG.
 
-    python3 -m tmm picture SCRIPT [-o FILE] [--bars ROW BEGIN END].. [--row NAME].. [--kinds-in-one-row]
+    python3 -m tmm picture SCRIPT [-o FILE] [--bars ROW BEGIN END].. [--row NAME].. [--kinds-in-one-row] [--timeline]
 
 runs the script, `-` for standard input, and then draws what is believed: a row for the points, one
 for each kind of event and one for each class of facts. A bar is a token: one with a thick end is
@@ -10,7 +10,8 @@ protections of the class, the broken ones in red. Refused lines are told on stan
 `--bars` adds a row of bars between pairs of points, as a Gantt chart has them. ROW, BEGIN and END may have
 a `*` each: `--bars saw 'cut-*' 'cut-*/ends'` draws a bar for each point whose name is of this form and has
 such an end. `--row` draws this row, in the order in which rows are named, instead of all.
-`--kinds-in-one-row` puts the events of all kinds in a row `events`.
+`--kinds-in-one-row` puts the events of all kinds in a row `events`. `--timeline` draws below each row of a
+kind or a class another, as `door, played`, of what occurs where all comes as early as it may.
 
 From Python, `draw(rows_of(time_map))` gives the picture of a live map.
 """
@@ -78,6 +79,8 @@ class Bars:
 
 POINTS = "points"
 EVENTS = "events"
+# what stands behind the name of a row for that of what is played
+PLAYED = ", played"
 
 # the row of each kind and fact, and the place of the fact in its class
 Places = Dict[str, Tuple[Row, int]]
@@ -88,11 +91,12 @@ def rows_of(
     bars: Sequence[Bars] = (),
     rows: Optional[Sequence[str]] = None,
     kinds_in_one_row: bool = False,
+    timeline: bool = False,
 ) -> List[Row]:
     """The rows that have an item: bars first, then the points, then classes and kinds as they were declared.
 
     `rows` names those that are wanted, in their order; by default all are. `kinds_in_one_row` puts the
-    events of all kinds in a row `events`.
+    events of all kinds in a row `events`. `timeline` puts below each row that of what is played.
 
     Raises `ValueError` for a row that is not there and for bars that name no points, and what the questions
     of `TimeMap` raise.
@@ -110,7 +114,8 @@ def rows_of(
                 places[what] = (row, place)
     add_believed(time_map, premises, places)
     add_protections(time_map, premises, places)
-    shown = [*rows_of_bars(time_map, premises, bars), *made.values()]
+    drawn = with_played(time_map, premises, places, made) if timeline else list(made.values())
+    shown = [*rows_of_bars(time_map, premises, bars), *drawn]
     if rows is not None:
         shown = [row for name in rows for row in named_rows(shown, name)]
     return [row for row in shown if row.items]
@@ -183,6 +188,32 @@ def add_believed(time_map: tmm.TimeMap, premises: List[List[str]], places: Place
             row.items.append(Item(Look.SPAN, begin, end, label, place, names))
         else:
             row.items.append(Item(Look.LASTING, begin, None, label, place, names))
+
+
+def with_played(
+    time_map: tmm.TimeMap, premises: List[List[str]], places: Places, rows: Dict[str, Row]
+) -> List[Row]:
+    """The rows, each with one below it of what occurs there where all comes as early as it may."""
+    spans = {name for word, name, *_ in premises if word == "span"}
+    played: Dict[str, Row] = {}
+    for occurrence in time_map.timeline().rows:
+        row, place = places[occurrence.what]
+        items = row_in(played, row.name).items
+        names = (("occurrence", occurrence.occurrence), ("point", occurrence.occurrence))
+        label = f"{occurrence.what} {occurrence.occurrence}"
+        if not occurrence.is_token:
+            items.append(mark(occurrence.date, occurrence.occurrence, *names))
+        elif occurrence.until is None:
+            items.append(Item(Look.LASTING, occurrence.date, None, label, place, names))
+        else:
+            look = Look.SPAN if occurrence.occurrence in spans else Look.CLIPPED
+            items.append(Item(look, occurrence.date, occurrence.until, label, place, names))
+    drawn = []
+    for name, row in rows.items():
+        drawn.append(row)
+        if name in played:
+            drawn.append(Row(name + PLAYED, played[name].items))
+    return drawn
 
 
 def add_protections(time_map: tmm.TimeMap, premises: List[List[str]], places: Places) -> None:
@@ -454,12 +485,13 @@ def main(words: Sequence[str]) -> int:
     )
     parser.add_argument("--row", action="append", metavar="NAME", help="draw this row; by default all are drawn")
     parser.add_argument("--kinds-in-one-row", action="store_true", help="put all events in a row `events`")
+    parser.add_argument("--timeline", action="store_true", help="draw what is played below what is believed")
     chosen = parser.parse_args(words)
     try:
         with tmm.TimeMap() as time_map:
             run_lines(time_map, lines_of(chosen.script))
             bars = [Bars(*each) for each in chosen.bars]
-            rows = rows_of(time_map, bars, chosen.row, chosen.kinds_in_one_row)
+            rows = rows_of(time_map, bars, chosen.row, chosen.kinds_in_one_row, chosen.timeline)
         write(draw(rows), chosen.output)
     except (OSError, ValueError, tmm.TmmError) as error:
         print(f"tmm picture: {error}", file=sys.stderr)

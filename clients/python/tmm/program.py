@@ -14,6 +14,9 @@ SUPPOSE = "suppose"
 # The mode in which several agents share a map.
 AGENTS = "agents"
 
+# The mode in which a map tells its timeline.
+TIMELINE = "timeline"
+
 _USAGE = re.compile(rb"usage: tmm \[demo N((?: \| [a-z]+)*)\], N from 1 to 1000\n")
 
 # What programs were found to have, by their files and the times of these.

@@ -17,6 +17,7 @@ from tmm.values import (
     Changes,
     Check,
     Clip,
+    Dated,
     Dump,
     EffectReason,
     Held,
@@ -25,6 +26,7 @@ from tmm.values import (
     NoBatch,
     NoMemory,
     OrderReason,
+    PointDate,
     PremiseReason,
     Reason,
     Refusal,
@@ -33,6 +35,7 @@ from tmm.values import (
     Side,
     Size,
     Step,
+    Timeline,
     Verdict,
     Walk,
     Why,
@@ -260,6 +263,22 @@ def _read_listing(words: List[str], lines: List[str]) -> Listing:
     return Listing(tuple(rows))
 
 
+def _read_timeline(words: List[str], lines: List[str]) -> Timeline:
+    point_count, row_count = [int(word) for word in words]
+    if len(lines) != point_count + row_count:
+        raise ValueError("another number of details than is told")
+    told = _words_of(lines)
+    points = []
+    for at, point, date in told[:point_count]:
+        if at != "at":
+            raise ValueError("a point without its date")
+        points.append(PointDate(point, int(date)))
+    rows = []
+    for date, occurrence, what, *rest in told[point_count:]:
+        rows.append(Dated(int(date), occurrence, what, bool(rest), _bound(rest[0]) if rest else None))
+    return Timeline(tuple(points), tuple(rows))
+
+
 def _read_dump(words: List[str], lines: List[str]) -> Dump:
     # The line that opens the version, where there is one, and the horizon come first, and are not counted.
     version = 1
@@ -302,6 +321,7 @@ _READERS: Dict[str, Callable[[List[str], List[str]], Reply]] = {
     "why": _read_why,
     "check": _read_check,
     "list": _read_listing,
+    "timeline": _read_timeline,
     "dump": _read_dump,
     "size": _read_size,
     "audit": _read_audit,

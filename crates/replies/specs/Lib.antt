@@ -1,3 +1,4 @@
 pub mod Number
 pub mod Dump
 pub mod Batches
+pub mod Timelines

@@ -14,6 +14,7 @@ mod memory;
 mod modes;
 mod questions;
 mod reasons;
+mod timelines;
 mod words;
 
 pub use batches::{reply_batch, reply_batch_no, reply_held};
@@ -25,3 +26,4 @@ pub use questions::{
     Word, reply_answer, reply_bounds, reply_check, reply_list, reply_number, reply_path, reply_why,
 };
 pub use reasons::put_reason;
+pub use timelines::reply_timeline;

@@ -165,13 +165,14 @@ fn other_words_get_the_usage_line(rt: HostRuntime) -> Result<(), Fail> {
         &["demo", ""],
         &["demo", "1", "1"],
         &["suppose", "suppose"],
+        &["timeline", "suppose"],
     ];
     for words in wrong {
         expect_with(
             &rt,
             alloc,
             words,
-            b"usage: tmm [demo N | suppose | agents], N from 1 to 1000\n",
+            b"usage: tmm [demo N | suppose | agents | repairs | timeline], N from 1 to 1000\n",
             Status::Words,
         )?;
     }
@@ -226,6 +227,38 @@ fn suppositions_are_kept_or_given_up(rt: HostRuntime) -> Result<(), Fail> {
             run(alloc, &words, &mut source, &mut sink),
             Status::SomeRefused
         );
+        assert_eq!(rt; sink.bytes(), replies);
+    }
+    Ok(())
+}
+
+/// Scripts that ask for their timeline, and their replies.
+const PLAYED: [(&[u8], &[u8]); 3] = [
+    // each occurrence on its date, and a persistence until what contradicts it
+    (
+        b"class door open shut\nkind push\nrule r push 1 2 shut if open\ntoken k open\ndist z start k 0 0\nevent e push\ndist x start e 10 10\ntimeline\n",
+        b"1 ok\n2 ok\n3 ok\n4 ok\n5 ok\n6 ok\n  in e/r\n  clip k by e/r\n7 ok\n8 timeline 2 3\n  at k 0\n  at e 10\n  0 k open 11\n  10 e push\n  11 e/r shut *\n",
+    ),
+    // an effect that is played, and not believed
+    (
+        b"class door open shut\nkind push\nrule r push 1 3 shut if open\ntoken k open\nevent e push\nlist\ntimeline\n",
+        b"1 ok\n2 ok\n3 ok\n4 ok\n5 ok\n6 list 2\n  0 e push\n  0 k open\n7 timeline 2 3\n  at k 0\n  at e 0\n  0 e push\n  0 k open 1\n  1 e/r shut *\n",
+    ),
+    // a span holds until its end; what is dated after the horizon brings nothing about
+    (
+        b"tmm 2\nhorizon 5\nclass door open shut\nkind push\nspan s open\ndist d start s 2 2\ndist l s s.end 3 3\nevent e push\ndist f start e 6 6\nrule r push 1 1 shut\npoint p\n timeline \n",
+        b"1 ok\n2 ok\n3 ok\n4 ok\n5 ok\n6 ok\n7 ok\n8 ok\n9 ok\n10 ok\n11 ok\n12 timeline 4 2\n  at s 2\n  at s.end 5\n  at e 6\n  at p 0\n  2 s open 5\n  6 e push\n",
+    ),
+];
+
+#[test]
+fn timelines_are_played(rt: HostRuntime) -> Result<(), Fail> {
+    let alloc = rt.alloc();
+    let words = [String::from_str(alloc, "timeline")?];
+    for (script, replies) in PLAYED {
+        let mut source = MemSource::make(alloc, script, 4096, &[])?;
+        let mut sink = MemSink::make(alloc, 1 << 10, &[])?;
+        assert_eq!(rt; run(alloc, &words, &mut source, &mut sink), Status::Clean);
         assert_eq!(rt; sink.bytes(), replies);
     }
     Ok(())

@@ -4,7 +4,7 @@ use Rattle.std.specs.String.{string_bytes}
 use Rattle.std.specs.declared.alloc.Global.{Global}
 use Rattle.std.specs.declared.string.String.{String}
 use Rattle.tmm_model.specs.declared.mode.Mode.{Mode}
-use Rattle.tmm_model.specs.declared.mode.Mode.TheVariants.{Suppose, Agents}
+use Rattle.tmm_model.specs.declared.mode.Mode.TheVariants.{Suppose, Agents, Repairs, Timeline}
 use Rattle.tmm_model.specs.declared.turn.Turn.{Turn}
 use Rattle.tmm_model.specs.Standing.{empty_list}
 use Rattle.tmm_model.specs.Transcript.{Step}
@@ -15,12 +15,14 @@ use Rattle.tmm_program.specs.declared.command.Command.{Command}
 use Rattle.tmm_program.specs.declared.command.Command.TheVariants.{Script, Demo, Usage}
 use Rattle.agents.specs.Sharing.{SharingStep}
 use Rattle.agents.specs.Worlds.{first_world as first_shared}
+use Rattle.repairs.specs.RepairsSteps.{RepairsStep}
 use Rattle.suppose.specs.Worlds.{first_world, SupposeStep}
+use Rattle.timeline.specs.Steps.{TimelineStep}
 use Rattle.tmm_program.specs.Demo.{IsDemo, DemoEnds}
 
 -- what is written for words that are none of the program's
 abbrev pub usage : List ℕ
-usage = codes "usage: tmm [demo N | suppose | agents], N from 1 to 1000\n"
+usage = codes "usage: tmm [demo N | suppose | agents | repairs | timeline], N from 1 to 1000\n"
 
 -- with words that are none of the program's: the usage line, or for a write fault a first part of
 -- it
@@ -42,14 +44,15 @@ SummaryEnds n output NoMemory = output ≡ []
 SummaryEnds n output status = DemoEnds empty_list n output status
 
 -- the word that asks for a mode
-abbrev pub mode_word : Mode → Option (List ℕ)
-mode_word Suppose = Some (codes "suppose")
-mode_word Agents = Some (codes "agents")
-mode_word mode = None
+abbrev pub mode_word : Mode → List ℕ
+mode_word Suppose = codes "suppose"
+mode_word Agents = codes "agents"
+mode_word Repairs = codes "repairs"
+mode_word Timeline = codes "timeline"
 
 -- the words are the one that asks for this mode
 abbrev pub IsMode : List (String Global) → Mode → Type 0
-IsMode (word ∷ []) mode = mode_word mode ≡ Some (string_bytes word)
+IsMode (word ∷ []) mode = mode_word mode ≡ string_bytes word
 IsMode words mode = ⊥
 
 -- the words ask for this command: where there are none, for a script without a mode, and where they
@@ -64,7 +67,8 @@ IsFor words Usage = (words ≢ []) × ((mode : Mode) → IsMode words mode → �
 abbrev pub ModeEnds : Mode → Type 0 → List ℕ → List ℕ → Status → Type 0
 ModeEnds Suppose at_end taken output status = ScriptEnds SupposeStep first_world at_end taken output status
 ModeEnds Agents at_end taken output status = ScriptEnds SharingStep first_shared at_end taken output status
-ModeEnds mode at_end taken output status = ⊥
+ModeEnds Repairs at_end taken output status = ScriptEnds RepairsStep empty_list at_end taken output status
+ModeEnds Timeline at_end taken output status = ScriptEnds TimelineStep empty_list at_end taken output status
 
 -- what a command may leave; it takes bytes for a script alone
 abbrev pub CommandEnds : Command → Type 0 → List ℕ → List ℕ → Status → Type 0

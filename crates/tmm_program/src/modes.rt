@@ -1,5 +1,5 @@
 // The words that ask for a mode.
-ghost use Rattle.std.specs.Prelude.{◌≡◌, Some, MatchOption};
+ghost use Rattle.std.specs.Prelude.{◌≡◌, MatchOption};
 ghost use Rattle.tmm_model.specs.declared.mode.Mode.{Mode as Kind};
 ghost use Rattle.tmm_program.specs.Program.{IsMode, mode_word};
 
@@ -17,12 +17,16 @@ pub fn mode_of(words: &[String]) -> Option<Mode>
 
 // The mode that is asked for by this word.
 fn mode_named(word: &[u8]) -> Option<Mode>
-    ensures { MatchOption result ((mode : Kind) → mode_word mode ≡ Some word.now → ⊥) (λ mode. mode_word mode ≡ Some word.now) }
+    ensures { MatchOption result ((mode : Kind) → mode_word mode ≡ word.now → ⊥) (λ mode. mode_word mode ≡ word.now) }
 {
     if word == b"suppose".as_slice() {
         Some(Mode::Suppose)
     } else if word == b"agents".as_slice() {
         Some(Mode::Agents)
+    } else if word == b"repairs".as_slice() {
+        Some(Mode::Repairs)
+    } else if word == b"timeline".as_slice() {
+        Some(Mode::Timeline)
     } else {
         None
     }

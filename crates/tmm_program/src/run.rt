@@ -6,7 +6,7 @@ ghost use Rattle.tmm_program.specs.Program.{ProgramEnds, ScriptEnds, SummaryEnds
 
 use crate::command::{Command, command_of};
 use crate::demo::demo;
-use crate::sessions::{agents_session, plain_session, suppose_session};
+use crate::sessions::{agents_session, plain_session, repairs_session, suppose_session, timeline_session};
 use crate::usage::tell_usage;
 use map_core::{Copies, Opens};
 use std::alloc::Global;
@@ -15,10 +15,12 @@ use tmm_io::{Sink, Source};
 use tmm_model::{Mode, NoMemory, Seq};
 
 /// All that the program does, over any map that opens empty and can be copied. Without words it
-/// reads a script from the source and writes a reply for each line to the sink; with the word
-/// `suppose` the script may put suppositions on top of the map, and with the word `agents` its edits
-/// are those of agents that share the map. With the words `demo N` it answers a generated script,
-/// and writes one line that tells of the replies; with any other words it writes how it is used.
+/// reads a script from the source and writes a reply for each line to the sink. With the word
+/// `suppose` the script may put suppositions on top of the map; with `agents` its edits are those of
+/// agents that share the map; with `repairs` it may ask what mends a broken protection, and with
+/// `timeline` what happens on the earliest dates. With the words `demo N` it answers a generated
+/// script, and writes one line that tells of the replies; with any other words it writes how it is
+/// used.
 pub fn run_over<M: Opens + Copies + Drop, S: Source, K: Sink>(
     alloc: Global,
     words: &[String],
@@ -43,8 +45,12 @@ pub fn run_over<M: Opens + Copies + Drop, S: Source, K: Sink>(
         Command::Script(Some(Mode::Agents)) => {
             run_lines(alloc, agents_session::<M>(alloc), source, sink)
         }
-        // no word asks for it
-        Command::Script(Some(_)) => unreachable!(),
+        Command::Script(Some(Mode::Repairs)) => {
+            run_lines(alloc, repairs_session::<M>(alloc), source, sink)
+        }
+        Command::Script(Some(Mode::Timeline)) => {
+            run_lines(alloc, timeline_session::<M>(alloc), source, sink)
+        }
         Command::Demo(n) => run_demo::<M, K>(alloc, n, sink),
         Command::Usage => tell_usage(sink),
     }

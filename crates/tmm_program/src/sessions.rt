@@ -1,16 +1,20 @@
 // What answers a script, made for its first line.
 ghost use Rattle.std.specs.Prelude.{IfOk, ◌≡◌, None};
-ghost use Rattle.agents.specs.States.{IsReady, world_of as shared_world};
+ghost use Rattle.agents.specs.States.{IsReady as AreReady, world_of as shared_world};
 ghost use Rattle.agents.specs.Worlds.{first_world as first_shared};
+ghost use Rattle.repairs.specs.Sessions.{IsReady as IsRepairing};
 ghost use Rattle.suppose.specs.Stacks.{IsSettled, world_of};
 ghost use Rattle.suppose.specs.Worlds.{first_world};
+ghost use Rattle.timeline.specs.Steps.{IsReady as IsDating};
 ghost use Rattle.tmm_model.specs.Standing.{empty_list};
 
 use agents::Sharing;
 use map_core::{Copies, Opens};
 use mode_session::ModeSession;
+use repairs::Repairing;
 use std::alloc::Global;
 use suppose::Supposing;
+use timeline::Dating;
 use tmm_model::NoMemory;
 use tmm_session::Session;
 
@@ -42,8 +46,32 @@ pub(crate) fn agents_session<M: Opens + Copies + Drop>(
 ) -> Result<ModeSession<Sharing<M>>, NoMemory>
     ensures first { IfOk result (λ session. shared_world M.list session.inner.agents ≡ first_shared) }
     ensures number { IfOk result (λ session. session.lines ≡ 0) }
-    ensures ready { IfOk result (λ session. IsReady M.list M.pending session.inner.agents) }
+    ensures ready { IfOk result (λ session. AreReady M.list M.pending session.inner.agents) }
 {
     let inner = Sharing::make(alloc)?;
+    Ok(ModeSession::make(inner))
+}
+
+/// A session that tells repairs, over the empty map.
+pub(crate) fn repairs_session<M: Opens + Copies + Drop>(
+    alloc: Global,
+) -> Result<ModeSession<Repairing<M>>, NoMemory>
+    ensures first { IfOk result (λ session. M.list session.inner.core ≡ empty_list) }
+    ensures number { IfOk result (λ session. session.lines ≡ 0) }
+    ensures ready { IfOk result (λ session. IsRepairing (M.list session.inner.core) (M.pending session.inner.core)) }
+{
+    let inner = Repairing::make(alloc)?;
+    Ok(ModeSession::make(inner))
+}
+
+/// A session that tells the timeline, over the empty map.
+pub(crate) fn timeline_session<M: Opens + Drop>(
+    alloc: Global,
+) -> Result<ModeSession<Dating<M>>, NoMemory>
+    ensures first { IfOk result (λ session. M.list session.inner.core ≡ empty_list) }
+    ensures number { IfOk result (λ session. session.lines ≡ 0) }
+    ensures ready { IfOk result (λ session. IsDating M.list M.pending session.inner.core) }
+{
+    let inner = Dating::make(alloc)?;
     Ok(ModeSession::make(inner))
 }

@@ -1,0 +1,10 @@
+pub mod Days
+pub mod Told
+pub mod Rows
+pub mod Holding
+pub mod Kinds
+pub mod Calendars
+pub mod Until
+pub mod Entries
+pub mod Steps
+pub mod Laws
