@@ -17,6 +17,7 @@ MANUAL_TABLES = [
     ("WORDS", "## Lines and words"),
     ("LINES", "## What a line says"),
     ("SUPPOSITIONS", "## Suppositions"),
+    ("REPAIRS", "## Repairs"),
     ("EXIT STATUS", "## Words and endings"),
 ]
 

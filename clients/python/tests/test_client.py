@@ -305,7 +305,7 @@ class ParseTest(unittest.TestCase):
             "1 bounds 0 0\n  in e\n",
             "1 yes k\n  k late\n",
             "1 memory\n  k late\n",
-            "usage: tmm [demo N | suppose], N from 1 to 1000\n",
+            "usage: tmm [demo N | suppose | repairs], N from 1 to 1000\n",
         ):
             with self.subTest(text=text), self.assertRaises(tmm.ProtocolError):
                 list(tmm.parse_replies(text))
@@ -326,9 +326,9 @@ class DocumentedScriptsTest(unittest.TestCase):
                 self.assertEqual(transcript.status, 1 if refused else 0)
 
     def test_line_by_line(self) -> None:
-        for _, script, text in documented_scripts():
+        for words, script, text in documented_scripts():
             replies = dict(tmm.parse_replies(text))
-            with self.subTest(script=script), tmm.TimeMap() as time_map:
+            with self.subTest(script=script), tmm.TimeMap(mode=next(iter(words), None)) as time_map:
                 for number, line in enumerate(script, start=1):
                     # a comment and a blank line have none
                     self.assertEqual(time_map.send(line), replies.get(number))

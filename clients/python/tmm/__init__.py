@@ -36,6 +36,7 @@ from tmm.handles import (
 from tmm.program import find_program
 from tmm.replies import parse_replies
 from tmm.values import (
+    AddedConstraint,
     Answer,
     Audit,
     Blame,
@@ -48,12 +49,16 @@ from tmm.values import (
     Clip,
     Dump,
     EffectReason,
+    ErasedPremise,
     Listing,
+    LoosenedConstraint,
     NoMemory,
     OrderReason,
     PremiseReason,
     Reason,
     Refusal,
+    Repair,
+    Repairs,
     Reply,
     Row,
     Side,
@@ -65,6 +70,7 @@ from tmm.values import (
 )
 
 __all__ = [
+    "AddedConstraint",
     "Answer",
     "Audit",
     "Blame",
@@ -79,10 +85,12 @@ __all__ = [
     "CutOff",
     "Dump",
     "EffectReason",
+    "ErasedPremise",
     "EventHandle",
     "Failure",
     "Handle",
     "Listing",
+    "LoosenedConstraint",
     "Mark",
     "New",
     "NoMemory",
@@ -99,6 +107,8 @@ __all__ = [
     "Refusal",
     "Refused",
     "RefusedForCycle",
+    "Repair",
+    "Repairs",
     "Reply",
     "Row",
     "Shared",

@@ -17,6 +17,7 @@ from typing import Dict, Iterable, Iterator, List, Sequence, Tuple, Type, Union
 from tmm.errors import ProtocolError
 from tmm.replies import parse_replies
 from tmm.values import (
+    AddedConstraint,
     Answer,
     Audit,
     Bounds,
@@ -24,11 +25,14 @@ from tmm.values import (
     Check,
     Dump,
     EffectReason,
+    ErasedPremise,
     Listing,
+    LoosenedConstraint,
     NoMemory,
     OrderReason,
     PremiseReason,
     Refusal,
+    Repairs,
     Reply,
     Size,
     Walk,
@@ -45,6 +49,7 @@ KINDS: Dict[Type[object], str] = {
     Answer: "answer",
     Why: "why",
     Check: "check",
+    Repairs: "repairs",
     Listing: "list",
     Dump: "dump",
     Size: "size",
@@ -54,6 +59,9 @@ KINDS: Dict[Type[object], str] = {
     PremiseReason: "premise",
     OrderReason: "order",
     EffectReason: "effect",
+    AddedConstraint: "add",
+    ErasedPremise: "erase",
+    LoosenedConstraint: "loosen",
 }
 
 

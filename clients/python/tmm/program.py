@@ -12,6 +12,9 @@ from tmm.errors import NoProgram
 # The mode in which a map takes suppositions: a word of the program's command line.
 SUPPOSE = "suppose"
 
+# The mode in which a map tells what mends a broken protection.
+REPAIRS = "repairs"
+
 _USAGE = re.compile(rb"usage: tmm \[demo N((?: \| [a-z]+)*)\], N from 1 to 1000\n")
 
 # What programs were found to have, by their files and the times of these.

@@ -6,6 +6,7 @@ from typing import Callable, Dict, Iterator, List, Optional, Tuple, Union
 
 from tmm.errors import ProtocolError
 from tmm.values import (
+    AddedConstraint,
     Answer,
     Audit,
     Blame,
@@ -18,12 +19,16 @@ from tmm.values import (
     Clip,
     Dump,
     EffectReason,
+    ErasedPremise,
     Listing,
+    LoosenedConstraint,
     NoMemory,
     OrderReason,
     PremiseReason,
     Reason,
     Refusal,
+    Repair,
+    Repairs,
     Reply,
     Row,
     Side,
@@ -223,6 +228,26 @@ def _read_check(words: List[str], lines: List[str]) -> Check:
     return Check(tuple(_broken(detail) for detail in details))
 
 
+def _repair(words: List[str]) -> Repair:
+    if words[0] == "add":
+        _, origin, target, lower, upper = words
+        if upper != "*":
+            raise ValueError("an upper bound of a constraint that would be added")
+        return AddedConstraint(origin, target, int(lower))
+    if words[0] == "erase":
+        _, premise = words
+        return ErasedPremise(premise)
+    loosen, constraint, side = words
+    if loosen != "loosen" or side not in (Side.LOWER.value, Side.UPPER.value):
+        raise ValueError(words)
+    return LoosenedConstraint(constraint, _SIDES[side])
+
+
+def _read_repairs(words: List[str], lines: List[str]) -> Repairs:
+    _counted(words[0], len(lines))
+    return Repairs(tuple([_repair(detail) for detail in _words_of(lines)]))
+
+
 def _read_listing(words: List[str], lines: List[str]) -> Listing:
     _counted(words[0], len(lines))
     rows = []
@@ -266,6 +291,7 @@ _READERS: Dict[str, Callable[[List[str], List[str]], Reply]] = {
     "no": _read_no,
     "why": _read_why,
     "check": _read_check,
+    "repairs": _read_repairs,
     "list": _read_listing,
     "dump": _read_dump,
     "size": _read_size,

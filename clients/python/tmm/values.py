@@ -173,6 +173,41 @@ class Check:
 
 
 @dataclass(frozen=True)
+class AddedConstraint:
+    """Would add a constraint: `target` is at least `lower` after `origin`."""
+
+    origin: str
+    target: str
+    lower: int
+
+
+@dataclass(frozen=True)
+class ErasedPremise:
+    """Would erase a premise, and with it all that mentions it."""
+
+    premise: str
+
+
+@dataclass(frozen=True)
+class LoosenedConstraint:
+    """Would give up the lower or the upper bound of a constraint."""
+
+    constraint: str
+    side: Side
+
+
+# A small change that mends a broken protection and breaks no other.
+Repair = Union[AddedConstraint, ErasedPremise, LoosenedConstraint]
+
+
+@dataclass(frozen=True)
+class Repairs:
+    """The small changes that mend a broken protection and break no other."""
+
+    repairs: Tuple[Repair, ...] = ()
+
+
+@dataclass(frozen=True)
 class Row:
     """A believed occurrence: its earliest date, its name, its kind or fact, and what clips it."""
 
@@ -246,4 +281,4 @@ class NoMemory:
     """There was no memory for a line, and nothing has changed."""
 
 
-Reply = Union[Changes, Bounds, Walk, Answer, Why, Check, Listing, Dump, Size, Audit, Refusal, NoMemory]
+Reply = Union[Changes, Bounds, Walk, Answer, Why, Check, Repairs, Listing, Dump, Size, Audit, Refusal, NoMemory]

@@ -9,6 +9,7 @@
 mod details;
 mod dump;
 mod edits;
+mod fixes;
 mod memory;
 mod modes;
 mod questions;
@@ -17,6 +18,7 @@ mod words;
 
 pub use dump::reply_dump;
 pub use edits::{reply_no, reply_ok};
+pub use fixes::reply_repairs;
 pub use memory::memory_reply;
 pub use modes::{reply_mode_no, reply_mode_ok};
 pub use questions::{

@@ -12,8 +12,9 @@ use tmm_program::run_over;
 
 /// All that the program does. Without words it reads a script from the source and writes a reply
 /// for each line to the sink; with the word `suppose` the script may put suppositions on top of the
-/// map. With the words `demo N` it answers a generated script, and writes one line that tells of
-/// the replies; with any other words it writes how it is used.
+/// map, and with the word `repairs` it may ask what mends a broken protection. With the words
+/// `demo N` it answers a generated script, and writes one line that tells of the replies; with any
+/// other words it writes how it is used.
 pub fn run<S: Source, K: Sink>(
     alloc: Global,
     words: &[String],

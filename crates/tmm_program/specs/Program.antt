@@ -4,7 +4,7 @@ use Rattle.std.specs.String.{string_bytes}
 use Rattle.std.specs.declared.alloc.Global.{Global}
 use Rattle.std.specs.declared.string.String.{String}
 use Rattle.tmm_model.specs.declared.mode.Mode.{Mode}
-use Rattle.tmm_model.specs.declared.mode.Mode.TheVariants.{Suppose}
+use Rattle.tmm_model.specs.declared.mode.Mode.TheVariants.{Suppose, Repairs}
 use Rattle.tmm_model.specs.declared.turn.Turn.{Turn}
 use Rattle.tmm_model.specs.Standing.{empty_list}
 use Rattle.tmm_model.specs.Transcript.{Step}
@@ -14,11 +14,12 @@ use Rattle.tmm_drive.specs.Endings.{Ends}
 use Rattle.tmm_program.specs.declared.command.Command.{Command}
 use Rattle.tmm_program.specs.declared.command.Command.TheVariants.{Script, Demo, Usage}
 use Rattle.suppose.specs.Worlds.{first_world, SupposeStep}
+use Rattle.repairs.specs.RepairsSteps.{RepairsStep}
 use Rattle.tmm_program.specs.Demo.{IsDemo, DemoEnds}
 
 -- what is written for words that are none of the program's
 abbrev pub usage : List ℕ
-usage = codes "usage: tmm [demo N | suppose], N from 1 to 1000\n"
+usage = codes "usage: tmm [demo N | suppose | repairs], N from 1 to 1000\n"
 
 -- with words that are none of the program's: the usage line, or for a write fault a first part of
 -- it
@@ -42,6 +43,7 @@ SummaryEnds n output status = DemoEnds empty_list n output status
 -- the word that asks for a mode
 abbrev pub mode_word : Mode → Option (List ℕ)
 mode_word Suppose = Some (codes "suppose")
+mode_word Repairs = Some (codes "repairs")
 mode_word mode = None
 
 -- the words are the one that asks for this mode
@@ -60,6 +62,7 @@ IsFor words Usage = (words ≢ []) × ((mode : Mode) → IsMode words mode → �
 -- what a script in a mode may leave, by the step and the first state of the mode
 abbrev pub ModeEnds : Mode → Type 0 → List ℕ → List ℕ → Status → Type 0
 ModeEnds Suppose at_end taken output status = ScriptEnds SupposeStep first_world at_end taken output status
+ModeEnds Repairs at_end taken output status = ScriptEnds RepairsStep empty_list at_end taken output status
 ModeEnds mode at_end taken output status = ⊥
 
 -- what a command may leave; it takes bytes for a script alone

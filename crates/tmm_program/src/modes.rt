@@ -21,6 +21,8 @@ fn mode_named(word: &[u8]) -> Option<Mode>
 {
     if word == b"suppose".as_slice() {
         Some(Mode::Suppose)
+    } else if word == b"repairs".as_slice() {
+        Some(Mode::Repairs)
     } else {
         None
     }

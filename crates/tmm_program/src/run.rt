@@ -6,7 +6,7 @@ ghost use Rattle.tmm_program.specs.Program.{ProgramEnds, ScriptEnds, SummaryEnds
 
 use crate::command::{Command, command_of};
 use crate::demo::demo;
-use crate::sessions::{plain_session, suppose_session};
+use crate::sessions::{plain_session, repairs_session, suppose_session};
 use crate::usage::tell_usage;
 use map_core::{Copies, Opens};
 use std::alloc::Global;
@@ -16,9 +16,9 @@ use tmm_model::{Mode, NoMemory, Seq};
 
 /// All that the program does, over any map that opens empty and can be copied. Without words it
 /// reads a script from the source and writes a reply for each line to the sink; with the word
-/// `suppose` the script may put suppositions on top of the map. With the words `demo N` it answers
-/// a generated script, and writes one line that tells of the replies; with any other words it
-/// writes how it is used.
+/// `suppose` the script may put suppositions on top of the map, and with the word `repairs` it may
+/// ask what mends a broken protection. With the words `demo N` it answers a generated script, and
+/// writes one line that tells of the replies; with any other words it writes how it is used.
 pub fn run_over<M: Opens + Copies + Drop, S: Source, K: Sink>(
     alloc: Global,
     words: &[String],
@@ -39,6 +39,9 @@ pub fn run_over<M: Opens + Copies + Drop, S: Source, K: Sink>(
         Command::Script(None) => run_lines(alloc, plain_session::<M>(alloc), source, sink),
         Command::Script(Some(Mode::Suppose)) => {
             run_lines(alloc, suppose_session::<M>(alloc), source, sink)
+        }
+        Command::Script(Some(Mode::Repairs)) => {
+            run_lines(alloc, repairs_session::<M>(alloc), source, sink)
         }
         // no word asks for it
         Command::Script(Some(_)) => unreachable!(),

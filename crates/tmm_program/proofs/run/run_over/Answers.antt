@@ -26,6 +26,13 @@ returns-in-Script-Some-Suppose-clause-ends g c =
     let ends = c.run_lines-in-Script-Some-Suppose.ensures.ends first_world c.suppose_session.ensures.first in
     (ends.0, ends.1, ends.2, ends.3, record { command = Script (Some _); asked = for_script c.args.words.now _ _ mode in_mode.ensures; ends = ends.4 })
 
+pub returns-in-Script-Some-Repairs-clause-ends : goal.returns-in-Script-Some-Repairs-clause-ends
+returns-in-Script-Some-Repairs-clause-ends g c =
+    let in_mode = c.in-Script-Some-Repairs in
+    let mode = in_mode.field-0-is ∙ ap Some in_mode.field-0-0-is in
+    let ends = c.run_lines-in-Script-Some-Repairs.ensures.ends empty_list c.repairs_session.ensures.first in
+    (ends.0, ends.1, ends.2, ends.3, record { command = Script (Some _); asked = for_script c.args.words.now _ _ mode in_mode.ensures; ends = ends.4 })
+
 pub returns-in-Demo-clause-ends : goal.returns-in-Demo-clause-ends
 returns-in-Demo-clause-ends g c =
     let ends = c.run_demo.ensures.ends in ([], ends.0, Consumes-nil _, ends.1, record { command = Demo c.in-Demo.n; asked = c.in-Demo.ensures; ends = (refl, ends.2) })
