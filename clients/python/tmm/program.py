@@ -17,6 +17,9 @@ AGENTS = "agents"
 # The mode in which a map tells its timeline.
 TIMELINE = "timeline"
 
+# The mode in which a map tells what mends a broken protection.
+REPAIRS = "repairs"
+
 _USAGE = re.compile(rb"usage: tmm \[demo N((?: \| [a-z]+)*)\], N from 1 to 1000\n")
 
 # What programs were found to have, by their files and the times of these.

@@ -2,3 +2,4 @@ pub mod Number
 pub mod Dump
 pub mod Batches
 pub mod Timelines
+pub mod Fixes

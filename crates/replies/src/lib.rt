@@ -10,6 +10,7 @@ mod batches;
 mod details;
 mod dump;
 mod edits;
+mod fixes;
 mod memory;
 mod modes;
 mod questions;
@@ -20,6 +21,7 @@ mod words;
 pub use batches::{reply_batch, reply_batch_no, reply_held};
 pub use dump::reply_dump;
 pub use edits::{reply_no, reply_ok};
+pub use fixes::reply_repairs;
 pub use memory::memory_reply;
 pub use modes::{reply_mode_no, reply_mode_ok};
 pub use questions::{

@@ -11,10 +11,11 @@ use tmm_io::{Sink, Source};
 use tmm_program::run_over;
 
 /// All that the program does. Without words it reads a script from the source and writes a reply
-/// for each line to the sink; with the word `suppose` the script may put suppositions on top of the
-/// map, and with the word `agents` its edits are those of agents that share the map. With the words
-/// `demo N` it answers a generated script, and writes one line that tells of the replies; with any
-/// other words it writes how it is used.
+/// for each line to the sink. With the word `suppose` the script may put suppositions on top of the
+/// map; with `agents` its edits are those of agents that share the map; with `repairs` it may ask
+/// what mends a broken protection, and with `timeline` what happens on the earliest dates. With the
+/// words `demo N` it answers a generated script, and writes one line that tells of the replies; with
+/// any other words it writes how it is used.
 pub fn run<S: Source, K: Sink>(
     alloc: Global,
     words: &[String],

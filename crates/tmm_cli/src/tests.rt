@@ -232,6 +232,35 @@ fn suppositions_are_kept_or_given_up(rt: HostRuntime) -> Result<(), Fail> {
     Ok(())
 }
 
+/// Scripts that ask for repairs, their replies and their statuses.
+const REPAIRED: [(&[u8], &[u8], Status); 2] = [
+    // what is taken from a premise
+    (
+        b"class door open shut\ntoken k open\ndist z start k 0 0\npoint p\ndist y start p 8 8\nprotect g open k p\ntoken m shut\ndist x start m 5 5\nrepairs g\n",
+        b"1 ok\n2 ok\n3 ok\n4 ok\n5 ok\n6 ok\n7 ok\n8 ok\n  clip k by m\n  broken g\n    k clipped m\n9 repairs 6\n  erase y\n  loosen y lo\n  erase m\n  erase x\n  loosen x lo\n  loosen x hi\n",
+        Status::Clean,
+    ),
+    // a constraint that is added, and a name that is that of no protection
+    (
+        b"class door open shut\ntoken k open\npoint p\ndist y start p 8 8\nprotect g open p p\nrepairs g\nrepairs y\n",
+        b"1 ok\n2 ok\n3 ok\n4 ok\n5 ok\n  broken g\n    k late\n6 repairs 1\n  add k p 0 *\n7 no sort y\n",
+        Status::SomeRefused,
+    ),
+];
+
+#[test]
+fn repairs_are_told(rt: HostRuntime) -> Result<(), Fail> {
+    let alloc = rt.alloc();
+    let words = [String::from_str(alloc, "repairs")?];
+    for (script, replies, status) in REPAIRED {
+        let mut source = MemSource::make(alloc, script, 4096, &[])?;
+        let mut sink = MemSink::make(alloc, 1 << 10, &[])?;
+        assert_eq!(rt; run(alloc, &words, &mut source, &mut sink), status);
+        assert_eq!(rt; sink.bytes(), replies);
+    }
+    Ok(())
+}
+
 /// Scripts that ask for their timeline, and their replies.
 const PLAYED: [(&[u8], &[u8]); 3] = [
     // each occurrence on its date, and a persistence until what contradicts it
