@@ -18,6 +18,8 @@ MANUAL_TABLES = [
     ("LINES", "## What a line says"),
     ("SUPPOSITIONS", "## Suppositions"),
     ("AGENTS", "## Agents"),
+    ("REPAIRS", "## Repairs"),
+    ("TIMELINES", "## A timeline"),
     ("EXIT STATUS", "## Words and endings"),
 ]
 

@@ -166,15 +166,15 @@ class Proving(unittest.TestCase):
         self.assertEqual((ran.returncode, ran.stdout), (70, ""))
         self.assertIn("checked: no-answer: too long\nrun=no-answer proved=no\n", ran.stderr)
 
-    def test_suppositions_are_answered_by_a_try(self) -> None:
+    def test_each_mode_is_answered_by_a_try(self) -> None:
         self.order("try", 'echo "$@"; cat; echo "run=ended status=0 runners=1 proved=no" >&2\n')
-        for mode in ("suppose", "agents"):
+        for mode in ("suppose", "agents", "repairs", "timeline"):
             self.assertEqual(self.run_script("tmm", mode).stdout, f"try -- {mode}\npoint a\n")
 
     def test_other_words(self) -> None:
         program = (ROOT / "crates" / "tmm_program" / "specs" / "Program.antt").read_text(encoding="utf-8")
         usage = re.search(r'"(usage: .*)\\n"', program)
-        for words in (["--help"], ["word"], [""], ["suppose", "more"], ["agents", "more"]):
+        for words in (["--help"], ["word"], [""], ["suppose", "more"], ["repairs", "more"], ["timeline", "agents"]):
             ran = self.run_script("tmm", *words)
             self.assertEqual((ran.returncode, ran.stdout), (2, f"{usage and usage.group(1)}\n"))
         self.assertEqual(self.take_calls(), [])

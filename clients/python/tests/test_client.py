@@ -344,7 +344,7 @@ class ParseTest(unittest.TestCase):
             "1 ok 1\n  in e\n",
             "1 no batch 3\n",
             "1 no batch 3\n  cycle -3\n  e lo a b 0\n",
-            "usage: tmm [demo N | suppose], N from 1 to 1000\n",
+            "usage: tmm [demo N | suppose | agents | repairs | timeline], N from 1 to 1000\n",
         ):
             with self.subTest(text=text), self.assertRaises(tmm.ProtocolError):
                 list(tmm.parse_replies(text))
@@ -370,8 +370,7 @@ class DocumentedScriptsTest(unittest.TestCase):
                 # its replies tell numbers of lines, among which fences count
                 continue
             replies = dict(tmm.parse_replies(text))
-            command = [tmm.find_program(), *words] if words else None
-            with self.subTest(script=script), tmm.TimeMap(command) as time_map:
+            with self.subTest(script=script), tmm.TimeMap(mode=next(iter(words), None)) as time_map:
                 for number, line in enumerate(script, start=1):
                     # a comment and a blank line have none
                     self.assertEqual(time_map.send(line), replies.get(number))

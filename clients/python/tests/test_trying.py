@@ -237,7 +237,10 @@ class SuppositionTest(unittest.TestCase):
         for usage, modes in (
             ("usage: tmm [demo N], N from 1 to 1000", []),
             ("usage: tmm [demo N | suppose], N from 1 to 1000", ["suppose"]),
-            ("usage: tmm [demo N | suppose | agents], N from 1 to 1000", ["agents", "suppose"]),
+            (
+                "usage: tmm [demo N | suppose | agents | repairs | timeline], N from 1 to 1000",
+                ["agents", "repairs", "suppose", "timeline"],
+            ),
             ("usage: another", []),
         ):
             with self.subTest(usage=usage), tempfile.TemporaryDirectory() as folder:

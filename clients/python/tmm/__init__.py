@@ -38,6 +38,7 @@ from tmm.handles import (
 from tmm.program import find_program
 from tmm.replies import parse_replies
 from tmm.values import (
+    AddedConstraint,
     Answer,
     Audit,
     Batch,
@@ -52,8 +53,10 @@ from tmm.values import (
     Dated,
     Dump,
     EffectReason,
+    ErasedPremise,
     Held,
     Listing,
+    LoosenedConstraint,
     Made,
     NoBatch,
     NoMemory,
@@ -62,6 +65,8 @@ from tmm.values import (
     PremiseReason,
     Reason,
     Refusal,
+    Repair,
+    Repairs,
     Reply,
     Row,
     Side,
@@ -74,6 +79,7 @@ from tmm.values import (
 )
 
 __all__ = [
+    "AddedConstraint",
     "Agent",
     "Answer",
     "Audit",
@@ -92,11 +98,13 @@ __all__ = [
     "Dated",
     "Dump",
     "EffectReason",
+    "ErasedPremise",
     "EventHandle",
     "Failure",
     "Handle",
     "Held",
     "Listing",
+    "LoosenedConstraint",
     "Made",
     "Mark",
     "New",
@@ -116,6 +124,8 @@ __all__ = [
     "Refusal",
     "Refused",
     "RefusedForCycle",
+    "Repair",
+    "Repairs",
     "Reply",
     "Row",
     "Shared",

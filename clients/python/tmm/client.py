@@ -2,6 +2,7 @@
 
 import subprocess
 from dataclasses import dataclass
+from itertools import count
 from types import TracebackType
 from typing import Callable, Dict, Iterable, List, Optional, Sequence, Set, Tuple, Type, TypeVar, Union
 
@@ -10,10 +11,11 @@ from tmm.edits import Edits
 from tmm.errors import ALL_ANSWERED, OutOfMemory, ProgramEnded, ProtocolError, TimedOut, TmmError, refused
 from tmm.explain import Threats, WhyNot
 from tmm.handles import New
-from tmm.program import SUPPOSE, find_program, modes_of
+from tmm.program import SUPPOSE, TIMELINE, find_program, modes_of
 from tmm.replies import parse_replies, parse_reply
 from tmm.stream import Stream, shown
 from tmm.values import (
+    AddedConstraint,
     Answer,
     Audit,
     Batch,
@@ -24,15 +26,20 @@ from tmm.values import (
     Check,
     Dump,
     EffectReason,
+    ErasedPremise,
     Held,
     Listing,
     NoMemory,
     OrderReason,
     Reason,
     Refusal,
+    Repair,
+    Repairs,
     Reply,
     Row,
+    Side,
     Size,
+    Timeline,
     Verdict,
     Walk,
     Why,
@@ -60,7 +67,21 @@ FIRST_HORIZON = 1000
 MOST_SUPPOSITIONS = 8
 
 ReplyKind = TypeVar(
-    "ReplyKind", Changes, Bounds, Walk, Answer, Why, Check, Listing, Dump, Size, Audit, Held, Batch
+    "ReplyKind",
+    Changes,
+    Bounds,
+    Walk,
+    Answer,
+    Why,
+    Check,
+    Listing,
+    Dump,
+    Size,
+    Audit,
+    Held,
+    Batch,
+    Repairs,
+    Timeline,
 )
 
 # Called after each line with it and its reply, None for a comment or a blank line.
@@ -152,21 +173,27 @@ class TimeMap(Edits[Changes]):
         self,
         command: Optional[Sequence[str]] = None,
         *,
+        mode: Optional[str] = None,
         timeout: Optional[float] = None,
         log: Optional[Log] = None,
     ) -> None:
         """Starts the program: that of `find_program`, or the given command with its words.
 
-        Where it has the mode `suppose`, and the command has no words of its own, it is started in that mode.
+        `mode` is the word of the mode in which it is started. Without one it is started in the mode `suppose`,
+        where it has that and the command has no words of its own.
         `timeout` is the most seconds that it may be silent while a reply is due, None for any number;
         after that `TimedOut` is raised. `log` is called after each line. Raises `NoProgram` and `OSError`.
         """
         if timeout is not None and not timeout > 0:
             raise ValueError(f"a timeout is more than 0 seconds, and not {timeout}")
         words_given = list(command) if command else [find_program()]
-        if len(words_given) == 1 and SUPPOSE in modes_of(words_given[0], timeout):
+        if mode is not None:
+            words_given.append(mode)
+        elif len(words_given) == 1 and SUPPOSE in modes_of(words_given[0], timeout):
             words_given.append(SUPPOSE)
         self._has_suppositions = words_given[1:] == [SUPPOSE]
+        self._command = words_given
+        self._timeout = timeout
         self._stream = Stream(words_given, timeout)
         self._log = log
         self._lines_given = 0
@@ -356,6 +383,27 @@ class TimeMap(Edits[Changes]):
                 self.back(before)
             raise
 
+    def apply(self, repair: Repair) -> Tuple[Changes, ...]:
+        """Makes a change that `repairs` told, and gives what each of its edits changed.
+
+        A constraint that is added gets the first of the names `repair-0`, `repair-1` and so on that is free; one
+        that is loosened then stands last. A refusal leaves all as it was.
+        """
+        if isinstance(repair, ErasedPremise):
+            return (self.erase(repair.premise),)
+        if isinstance(repair, AddedConstraint):
+            return (self.dist(self._free_name(), repair.origin, repair.target, repair.lower),)
+        word, *_, lower, upper = self._standing.premises.get(repair.constraint, "none * *").split()
+        if word != "dist" or "*" in (lower, upper):
+            raise ValueError(f"no constraint {repair.constraint!r} with two bounds stands")
+        if repair.side is Side.LOWER:
+            return self.change(repair.constraint, None, int(upper))
+        return self.change(repair.constraint, int(lower), None)
+
+    def _free_name(self) -> str:
+        """The first of the names `repair-0`, `repair-1` and so on that is not declared."""
+        return next(name for name in map("repair-{}".format, count()) if not self.is_declared(name))
+
     # ---- trying out
 
     @property
@@ -492,9 +540,36 @@ class TimeMap(Edits[Changes]):
         """The broken protections."""
         return self._answer(Check, "check", "check").broken
 
+    def repairs(self, protection: str) -> Tuple[Repair, ...]:
+        """The small changes that mend the broken protection and break no other; none where it is not broken.
+
+        The map has to run in the mode `repairs`: in any other the program refuses the line for its form.
+        """
+        return self._answer(Repairs, "repairs", f"repairs {words.name(protection)}").repairs
+
     def list(self) -> Tuple[Row, ...]:
         """All believed occurrences, by their earliest dates."""
         return self._answer(Listing, "list", "list").rows
+
+    def timeline(self) -> Timeline:
+        """What happens where each point comes at its earliest date, and each effect after its least delay.
+
+        A program in the mode `timeline` is asked itself. Else what stands is given to one that is started in
+        that mode for it. Raises `Refused` where too much happens, and `TmmError` for a program that has no
+        such mode.
+        """
+        if self._command[1:] == [TIMELINE]:
+            return self._answer(Timeline, "timeline", "timeline")
+        program = self._command[0]
+        if TIMELINE not in modes_of(program, self._timeout):
+            raise TmmError(f"{program} tells no timeline")
+        standing = self._standing
+        lines = ["tmm 2"] if standing.version == 2 else []
+        # Up to the date 0 no rule brings about anything, so that nothing is too large on the way.
+        lines += ["horizon 0", *standing.premises.values(), f"horizon {standing.horizon}"]
+        with TimeMap([program, TIMELINE], timeout=self._timeout) as played:
+            played._answers(Changes, lines)
+            return played.timeline()
 
     def dump(self) -> Dump:
         """The horizon, and the standing premises as lines of a script."""

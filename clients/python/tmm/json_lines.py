@@ -17,6 +17,7 @@ from typing import Dict, Iterable, Iterator, List, Sequence, Tuple, Type, Union
 from tmm.errors import ProtocolError
 from tmm.replies import parse_replies
 from tmm.values import (
+    AddedConstraint,
     Answer,
     Audit,
     Batch,
@@ -25,13 +26,16 @@ from tmm.values import (
     Check,
     Dump,
     EffectReason,
+    ErasedPremise,
     Held,
     Listing,
+    LoosenedConstraint,
     NoBatch,
     NoMemory,
     OrderReason,
     PremiseReason,
     Refusal,
+    Repairs,
     Reply,
     Size,
     Timeline,
@@ -49,6 +53,7 @@ KINDS: Dict[Type[object], str] = {
     Answer: "answer",
     Why: "why",
     Check: "check",
+    Repairs: "repairs",
     Listing: "list",
     Timeline: "timeline",
     Dump: "dump",
@@ -62,6 +67,9 @@ KINDS: Dict[Type[object], str] = {
     PremiseReason: "premise",
     OrderReason: "order",
     EffectReason: "effect",
+    AddedConstraint: "add",
+    ErasedPremise: "erase",
+    LoosenedConstraint: "loosen",
 }
 
 

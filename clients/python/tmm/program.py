@@ -13,12 +13,10 @@ from tmm.errors import NoProgram
 SUPPOSE = "suppose"
 # The mode in which several agents share a map.
 AGENTS = "agents"
-
-# The mode in which a map tells its timeline.
-TIMELINE = "timeline"
-
 # The mode in which a map tells what mends a broken protection.
 REPAIRS = "repairs"
+# The mode in which a map tells its timeline.
+TIMELINE = "timeline"
 
 _USAGE = re.compile(rb"usage: tmm \[demo N((?: \| [a-z]+)*)\], N from 1 to 1000\n")
 

@@ -6,6 +6,7 @@ from typing import Callable, Dict, Iterator, List, Optional, Tuple, Union
 
 from tmm.errors import ProtocolError
 from tmm.values import (
+    AddedConstraint,
     Answer,
     Audit,
     Batch,
@@ -20,8 +21,10 @@ from tmm.values import (
     Dated,
     Dump,
     EffectReason,
+    ErasedPremise,
     Held,
     Listing,
+    LoosenedConstraint,
     Made,
     NoBatch,
     NoMemory,
@@ -30,6 +33,8 @@ from tmm.values import (
     PremiseReason,
     Reason,
     Refusal,
+    Repair,
+    Repairs,
     Reply,
     Row,
     Side,
@@ -255,6 +260,26 @@ def _read_check(words: List[str], lines: List[str]) -> Check:
     return Check(tuple(_broken(detail) for detail in details))
 
 
+def _repair(words: List[str]) -> Repair:
+    if words[0] == "add":
+        _, origin, target, lower, upper = words
+        if upper != "*":
+            raise ValueError("an upper bound of a constraint that would be added")
+        return AddedConstraint(origin, target, int(lower))
+    if words[0] == "erase":
+        _, premise = words
+        return ErasedPremise(premise)
+    loosen, constraint, side = words
+    if loosen != "loosen" or side not in (Side.LOWER.value, Side.UPPER.value):
+        raise ValueError(words)
+    return LoosenedConstraint(constraint, _SIDES[side])
+
+
+def _read_repairs(words: List[str], lines: List[str]) -> Repairs:
+    _counted(words[0], len(lines))
+    return Repairs(tuple([_repair(detail) for detail in _words_of(lines)]))
+
+
 def _read_listing(words: List[str], lines: List[str]) -> Listing:
     _counted(words[0], len(lines))
     rows = []
@@ -320,6 +345,7 @@ _READERS: Dict[str, Callable[[List[str], List[str]], Reply]] = {
     "held": _read_held,
     "why": _read_why,
     "check": _read_check,
+    "repairs": _read_repairs,
     "list": _read_listing,
     "timeline": _read_timeline,
     "dump": _read_dump,

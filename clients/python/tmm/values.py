@@ -173,6 +173,41 @@ class Check:
 
 
 @dataclass(frozen=True)
+class AddedConstraint:
+    """Would add a constraint: `target` is at least `lower` after `origin`."""
+
+    origin: str
+    target: str
+    lower: int
+
+
+@dataclass(frozen=True)
+class ErasedPremise:
+    """Would erase a premise, and with it all that mentions it."""
+
+    premise: str
+
+
+@dataclass(frozen=True)
+class LoosenedConstraint:
+    """Would give up the lower or the upper bound of a constraint."""
+
+    constraint: str
+    side: Side
+
+
+# A small change that mends a broken protection and breaks no other.
+Repair = Union[AddedConstraint, ErasedPremise, LoosenedConstraint]
+
+
+@dataclass(frozen=True)
+class Repairs:
+    """The small changes that mend a broken protection and break no other."""
+
+    repairs: Tuple[Repair, ...] = ()
+
+
+@dataclass(frozen=True)
 class Row:
     """A believed occurrence: its earliest date, its name, its kind or fact, and what clips it."""
 
@@ -187,6 +222,36 @@ class Listing:
     """All believed occurrences, by their earliest dates."""
 
     rows: Tuple[Row, ...] = ()
+
+
+@dataclass(frozen=True)
+class PointDate:
+    """A declared point, and its date in a timeline: its earliest."""
+
+    point: str
+    date: int
+
+
+@dataclass(frozen=True)
+class Dated:
+    """What occurs on a date of a timeline: its name, and its kind or fact.
+
+    A token holds until the date `until`, None where it lasts; an event has none.
+    """
+
+    date: int
+    occurrence: str
+    what: str
+    is_token: bool = False
+    until: Optional[int] = None
+
+
+@dataclass(frozen=True)
+class Timeline:
+    """What happens where each point comes at its earliest date, by date and then by name."""
+
+    points: Tuple[PointDate, ...] = ()
+    rows: Tuple[Dated, ...] = ()
 
 
 @dataclass(frozen=True)
@@ -284,5 +349,21 @@ class NoMemory:
 
 
 Reply = Union[
-    Changes, Bounds, Walk, Answer, Why, Check, Listing, Dump, Size, Audit, Held, Batch, NoBatch, Refusal, NoMemory
+    Changes,
+    Bounds,
+    Walk,
+    Answer,
+    Why,
+    Check,
+    Listing,
+    Dump,
+    Size,
+    Audit,
+    Held,
+    Batch,
+    NoBatch,
+    Repairs,
+    Timeline,
+    Refusal,
+    NoMemory,
 ]

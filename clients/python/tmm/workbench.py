@@ -74,7 +74,7 @@ HEADERS = {
 }
 
 FORGOTTEN = "This map is not there: load the page again."
-NO_REPAIRS = "This program has no repairs: it tells what broke the protection, and not what would mend it."
+NO_REPAIRS = "This page shows no repairs: it tells what broke the protection. The mode `repairs` of the program tells what mends it."
 
 Value = Dict[str, Any]
 
@@ -320,10 +320,7 @@ class Desk:
             }
 
     def repairs(self, at: int, protection: str) -> Value:
-        """What would mend a broken protection.
-
-        No program has the mode `repairs` yet. Where one has it, its answer stands here, and the page shows it.
-        """
+        """Where one is told what would mend a broken protection: the map of the page runs in another mode."""
         return {"told": NO_REPAIRS}
 
 
