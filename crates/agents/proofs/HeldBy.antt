@@ -35,6 +35,7 @@ held_by-with_other (b ∷ bs) a g h apart = by (held_by-with_other bs a g h apar
   over : held_by (with_held bs a h) g ≡ held_by bs g → (u : Bool) → edits_of (cond u (Some b) (find (is_of g) (with_held bs a h))) ≡ edits_of (cond u (Some b) (find (is_of g) bs))
   over again true = refl
   over again false = again
+
   by : held_by (with_held bs a h) g ≡ held_by bs g → (v : Bool) → is_of a b ≡ v → held_by (cond v (grown b h ∷ bs) (b ∷ with_held bs a h)) g ≡ held_by (b ∷ bs) g
   by again true is =
       let other : is_of g b ≡ false = apart_too a b.agent g is apart in
@@ -57,6 +58,7 @@ held_by-without_other (b ∷ bs) a g apart = by (held_by-without_other bs a g ap
   over : held_by (without bs a) g ≡ held_by bs g → (u : Bool) → edits_of (cond u (Some b) (find (is_of g) (without bs a))) ≡ edits_of (cond u (Some b) (find (is_of g) bs))
   over again true = refl
   over again false = again
+
   by : held_by (without bs a) g ≡ held_by bs g → (v : Bool) → is_of a b ≡ v → held_by (cond (not v) (b ∷ without bs a) (without bs a)) g ≡ held_by (b ∷ bs) g
   by again true is =
       again
@@ -125,6 +127,7 @@ once-without (b ∷ bs) a g = by (once-without bs a g) (is_of a b) where
   drops : batches_of (without bs a) g ≤ batches_of bs g → (u : Bool) → batches_of (without bs a) g ≤ length (cond u (b ∷ filter (is_of g) bs) (filter (is_of g) bs))
   drops again true = omega arith
   drops again false = again
+
   by : batches_of (without bs a) g ≤ batches_of bs g → (v : Bool) → batches_of (cond (not v) (b ∷ without bs a) (without bs a)) g ≤ batches_of (b ∷ bs) g
   by again true = drops again (is_of g b)
   by again false = both_more (is_of g b) b b (filter (is_of g) (without bs a)) (filter (is_of g) bs) again

@@ -72,13 +72,14 @@ pub batch_after-push : (lines : List Answered) (a : Answered) (agent : List ℕ)
 batch_after-push lines a agent =
     ap (filter_map (λ b. held_as agent b (said_by b))) (after_last-push (λ b. ends_as agent b (said_by b)) lines a)
     ∙ by (ends_as agent a (said_by a)) where
-  earlier : List Answered
-  earlier = after_last (λ b. ends_as agent b (said_by b)) lines
-  by : (v : Bool) → filter_map (λ b. held_as agent b (said_by b)) (cond v [] (earlier ++ a ∷ [])) ≡ cond v [] (filter_map (λ b. held_as agent b (said_by b)) earlier ++ elements (held_as agent a (said_by a)))
-  by true = refl
-  by false =
-      filter_map-append (λ b. held_as agent b (said_by b)) earlier (a ∷ [])
-      ∙ ap (λ (hs : List Held). filter_map (λ b. held_as agent b (said_by b)) earlier ++ hs) (filter_map-one (λ b. held_as agent b (said_by b)) a)
+      earlier : List Answered
+      earlier = after_last (λ b. ends_as agent b (said_by b)) lines
+
+      by : (v : Bool) → filter_map (λ b. held_as agent b (said_by b)) (cond v [] (earlier ++ a ∷ [])) ≡ cond v [] (filter_map (λ b. held_as agent b (said_by b)) earlier ++ elements (held_as agent a (said_by a)))
+      by true = refl
+      by false =
+          filter_map-append (λ b. held_as agent b (said_by b)) earlier (a ∷ [])
+          ∙ ap (λ (hs : List Held). filter_map (λ b. held_as agent b (said_by b)) earlier ++ hs) (filter_map-one (λ b. held_as agent b (said_by b)) a)
 
 -- the edits that are made, with one line more behind these
 made_behind-push : (before lines : List Answered) (a : Answered) → made_behind before (lines ++ a ∷ []) ≡ made_behind before lines ++ made_as (before ++ lines) a (said_by a)
@@ -136,6 +137,7 @@ holds_nothing : (a : Answered) (said : Option ModeLine) → is_done a.turn ≡ f
 holds_nothing a (Some (Hold whose rest)) not_done agent = by (is_done a.turn) not_done where
   said_here : Option Held
   said_here = option_map (λ edit. record { line = a.number; edit = edit }) (edit_said (words (drop rest a.line)))
+
   by : (v : Bool) → v ≡ false → cond (same_name whose agent && v) said_here None ≡ None
   by true wrong = absurd (true_no wrong)
   by false is_false = ap (λ (v : Bool). cond v said_here None) (and_no (same_name whose agent))
@@ -178,7 +180,7 @@ module _ (lines : List Answered) (old : World) (is : IsWorldAfter lines old) (k 
     batches = λ agent.
         ap (λ (w : World). held_by w.batches agent) same ∙ sym (append-nil (held_by old.batches agent))
         ∙ sym (ap (λ (v : Bool). held_after v (held_by old.batches agent) (held_as agent (by_turn turn) said)) (no_end agent)
-               ∙ ap (λ (o : Option Held). held_by old.batches agent ++ elements o) (holds_nothing (by_turn turn) said not_done agent));
+        ∙ ap (λ (o : Option Held). held_by old.batches agent ++ elements o) (holds_nothing (by_turn turn) said not_done agent));
     some = subst (λ (w : World). All HasEdit w.batches) (sym same) is.some;
     once = λ agent. subst (λ (w : World). batches_of w.batches agent ≤ 1) (sym same) (is.once agent);
   }
@@ -207,10 +209,13 @@ module _ (lines : List Answered) (old : World) (is : IsWorldAfter lines old) (k 
     more_held whose rest edit reads agent = by (same_name whose agent) refl where
       h : Held
       h = record { line = k; edit = edit }
+
       said_here : Option Held
       said_here = option_map (λ e. record { line = k; edit = e }) (edit_said (words (drop rest line)))
+
       is_said : said_here ≡ Some h
       is_said = ap (option_map (λ e. record { line = k; edit = e })) (edit_said-reads (words (drop rest line)) edit reads)
+
       by : (v : Bool) → same_name whose agent ≡ v → held_by (with_held old.batches whose h) agent ≡ held_by old.batches agent ++ elements (cond (v && true) said_here None)
       by true same =
           subst (λ (n : List ℕ). held_by (with_held old.batches whose h) n ≡ held_by old.batches n ++ h ∷ []) (same_name-is whose agent same) (held_by-with old.batches whose h)
@@ -225,12 +230,12 @@ module _ (lines : List Answered) (old : World) (is : IsWorldAfter lines old) (k 
     holds whose rest edit refused reads None answers =
         subst (λ (v : Bool). Leaves lines old (by_turn (told v)) (Some (Hold whose rest)) new) (sym answers.1)
         (subst (λ (w : World). Leaves lines old (by_turn (told false)) (Some (Hold whose rest)) w) (sym answers.2)
-         (record {
-            list = refl;
-            batches = more_held whose rest edit reads;
-            some = some-with old.batches whose (record { line = k; edit = edit }) is.some;
-            once = once-held old.batches whose (record { line = k; edit = edit }) is.once;
-          }))
+        (record {
+          list = refl;
+          batches = more_held whose rest edit reads;
+          some = some-with old.batches whose (record { line = k; edit = edit }) is.some;
+          once = once-held old.batches whose (record { line = k; edit = edit }) is.once;
+        }))
 
     hold_leaves : (whose : List ℕ) (rest : ℕ) (refused : Bool) → HoldAnswers old k whose (words (drop rest line)) bytes refused new
         → Leaves lines old (by_turn (told refused)) (Some (Hold whose rest)) new
@@ -258,7 +263,7 @@ module _ (lines : List Answered) (old : World) (is : IsWorldAfter lines old) (k 
       batches = λ agent.
           ap (λ (bs : List Batch). held_by bs agent) batches ∙ none_held whose agent
           ∙ sym (ap (λ (v : Bool). held_after v (held_by old.batches agent) (held_as agent (by_turn (told refused)) (Some said))) (ends agent)
-                 ∙ ap (λ (o : Option Held). held_after (same_name whose agent && true) (held_by old.batches agent) o) (holds_none agent));
+          ∙ ap (λ (o : Option Held). held_after (same_name whose agent && true) (held_by old.batches agent) o) (holds_none agent));
       some = subst (All HasEdit) (sym batches) (some-without old.batches whose is.some);
       once = λ agent. subst (λ (bs : List Batch). batches_of bs agent ≤ 1) (sym batches) (omega (arith, once-without old.batches whose agent, is.once agent));
     }
@@ -268,7 +273,7 @@ module _ (lines : List Answered) (old : World) (is : IsWorldAfter lines old) (k 
       | for_all all accepted text free same ↦
           subst (λ (v : Bool). Leaves lines old (by_turn (told v)) (Some (Commit whose)) new) (sym free)
           (ends_batch whose false (Commit whose) (λ agent. refl) (λ agent. refl) new (ap (λ (w : World). w.batches) same)
-           (ap (λ (w : World). w.list) same ∙ ap (λ (hs : List Held). list_after old.list hs) (is.batches whose)))
+          (ap (λ (w : World). w.list) same ∙ ap (λ (hs : List Held). list_after old.list hs) (is.batches whose)))
       | for_none held refusal first text refuses same ↦
           subst (λ (v : Bool). Leaves lines old (by_turn (told v)) (Some (Commit whose)) new) (sym refuses)
           (ends_batch whose true (Commit whose) (λ agent. refl) (λ agent. refl) new (ap (λ (w : World). w.batches) same) (ap (λ (w : World). w.list) same))

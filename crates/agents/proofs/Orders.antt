@@ -160,8 +160,10 @@ committed_by-own agent es [] = refl
 committed_by-own agent es (line ∷ lines) = by (λ fs. committed_by-own agent fs lines) (is_line_of agent line) refl where
   move : Option Move
   move = move_as agent line (own_line Sharing line)
+
   kept : List (List ℕ)
   kept = filter (is_line_of agent) lines
+
   by : ((fs : List Edit) → committed_by agent fs kept ≡ committed_by agent fs lines) → (v : Bool) → is_line_of agent line ≡ v
       → committed_by agent es (cond v (line ∷ kept) kept) ≡ told_by move es ++ committed_by agent (held_next move es) lines
   by again true mine = ap (λ (bs : List (List Edit)). told_by move es ++ bs) (again (held_next move es))
@@ -184,6 +186,7 @@ committers-commits [] = refl
 committers-commits (line ∷ lines) = by (committers-commits lines) (is_commit line) refl where
   kept : List (List ℕ)
   kept = filter is_commit lines
+
   by : committers kept ≡ committers lines → (v : Bool) → is_commit line ≡ v → committers (cond v (line ∷ kept) kept) ≡ cons_option (commit_in (own_line Sharing line)) (committers lines)
   by again true commit = ap (λ (them : List (List ℕ)). cons_option (commit_in (own_line Sharing line)) them) again
   by again false other =
@@ -212,9 +215,11 @@ Comes list (who ∷ others) batches new = (mid : Standing) × Made list (first_o
 
 comes_same : (list : Standing) (them : List (List ℕ)) (f g : List ℕ → List (List Edit)) (new : Standing) → ((agent : List ℕ) → f agent ≡ g agent) → Comes list them f new → Comes list them g new
 comes_same list [] f g new same comes = comes
-comes_same list (who ∷ others) f g new same (mid, made, rest) =
-    (mid, subst (λ (bs : List (List Edit)). Made list (first_of bs) mid) (same who) made,
-     comes_same mid others (behind f who) (behind g who) new (λ agent. ap (λ (bs : List (List Edit)). cond (same_name who agent) (behind_first bs) bs) (same agent)) rest)
+comes_same list (who ∷ others) f g new same (mid, made, rest) = (
+  mid,
+  subst (λ (bs : List (List Edit)). Made list (first_of bs) mid) (same who) made,
+  comes_same mid others (behind f who) (behind g who) new (λ agent. ap (λ (bs : List (List Edit)). cond (same_name who agent) (behind_first bs) bs) (same agent)) rest,
+)
 
 comes_one : (list : Standing) (them : List (List ℕ)) (f : List ℕ → List (List Edit)) (m n : Standing) → Comes list them f m → Comes list them f n → m ≡ n
 comes_one list [] f m n one other = one ∙ sym other
@@ -282,6 +287,7 @@ module _ (old new : World) (k : ℕ) (line : List ℕ) where
     holds_more whose rest edit said agent = by (same_name whose agent) refl where
       h : Held
       h = record { line = k; edit = edit }
+
       by : (v : Bool) → same_name whose agent ≡ v → edits_in (held_by (with_held old.batches whose h) agent)
           ≡ held_next (cond v (option_map holds (edit_said (words (drop rest line)))) None) (edits_in (held_by old.batches agent))
       by true same =
@@ -323,16 +329,16 @@ module _ (old new : World) (k : ℕ) (line : List ℕ) where
     commit_moves : (whose : List ℕ) → CommitAnswers old k whose bytes refused new → Moved old line (Some (Commit whose)) new
     commit_moves whose answers = elim answers [
       | for_all all accepted text free same ↦ record {
-          list = inl (
-            accepted_all old.list (held_by old.batches whose) all accepted,
-            ap (λ (w : World). w.list) same ∙ list_after-edits old.list (held_by old.batches whose),
-          );
-          held = none_left whose commits (λ es. refl) (ap (λ (w : World). w.batches) same);
-        }
+        list = inl (
+          accepted_all old.list (held_by old.batches whose) all accepted,
+          ap (λ (w : World). w.list) same ∙ list_after-edits old.list (held_by old.batches whose),
+        );
+        held = none_left whose commits (λ es. refl) (ap (λ (w : World). w.batches) same);
+      }
       | for_none held refusal first text refuses same ↦ record {
-          list = inr (refused_some old.list (held_by old.batches whose) held refusal first, ap (λ (w : World). w.list) same);
-          held = none_left whose commits (λ es. refl) (ap (λ (w : World). w.batches) same);
-        }
+        list = inr (refused_some old.list (held_by old.batches whose) held refusal first, ap (λ (w : World). w.list) same);
+        held = none_left whose commits (λ es. refl) (ap (λ (w : World). w.batches) same);
+      }
     ]
 
     own_moves : (form : ModeLine) → SharingOwn old k line form bytes refused new → Moved old line (Some form) new
@@ -396,11 +402,11 @@ module _ (old mid : World) (line : List ℕ) (lines : List (List ℕ)) (new : St
   goes_on said none move comes =
       subst (λ (o : Option (List ℕ)). Comes old.list (cons_option o (committers lines)) (by_said old line said lines) new) (sym none)
       (comes_same old.list (committers lines) (from_world mid lines) (by_said old line said lines) new
-       (λ agent.
-          ap (λ (es : List Edit). committed_by agent es lines) (move.held agent)
-          ∙ sym (ap (λ (bs : List (List Edit)). bs ++ committed_by agent (held_next (move_as agent line said) (edits_in (held_by old.batches agent))) lines)
-                 (quiet said none agent (edits_in (held_by old.batches agent)))))
-       (subst (λ (l : Standing). Comes l (committers lines) (from_world mid lines) new) (subst (λ (o : Option (List ℕ)). LeavesList o old mid.list) none move.list) comes))
+      (λ agent.
+      ap (λ (es : List Edit). committed_by agent es lines) (move.held agent)
+      ∙ sym (ap (λ (bs : List (List Edit)). bs ++ committed_by agent (held_next (move_as agent line said) (edits_in (held_by old.batches agent))) lines)
+      (quiet said none agent (edits_in (held_by old.batches agent)))))
+      (subst (λ (l : Standing). Comes l (committers lines) (from_world mid lines) new) (subst (λ (o : Option (List ℕ)). LeavesList o old mid.list) none move.list) comes))
 
   -- a commit
   commits_on : (who : List ℕ) → Moved old line (Some (Commit who)) mid → Comes mid.list (committers lines) (from_world mid lines) new
@@ -414,11 +420,12 @@ module _ (old mid : World) (line : List ℕ) (lines : List (List ℕ)) (new : St
   ) where
     held : List Edit
     held = edits_in (held_by old.batches who)
+
     by : (agent : List ℕ) (v : Bool)
         → committed_by agent (held_next (cond v (Some commits) None) (edits_in (held_by old.batches agent))) lines
         ≡ cond v
-          (behind_first (told_by (cond v (Some commits) None) (edits_in (held_by old.batches agent)) ++ committed_by agent (held_next (cond v (Some commits) None) (edits_in (held_by old.batches agent))) lines))
-          (told_by (cond v (Some commits) None) (edits_in (held_by old.batches agent)) ++ committed_by agent (held_next (cond v (Some commits) None) (edits_in (held_by old.batches agent))) lines)
+        (behind_first (told_by (cond v (Some commits) None) (edits_in (held_by old.batches agent)) ++ committed_by agent (held_next (cond v (Some commits) None) (edits_in (held_by old.batches agent))) lines))
+        (told_by (cond v (Some commits) None) (edits_in (held_by old.batches agent)) ++ committed_by agent (held_next (cond v (Some commits) None) (edits_in (held_by old.batches agent))) lines)
     by agent true = refl
     by agent false = refl
 
@@ -449,10 +456,10 @@ commits_decide one other ones others w v run run_too commits_same lines_same =
     comes_one first_world.list (committers one) (from_world first_world one) w.list v.list
     (run_comes first_world w 0 one ones run)
     (subst (λ (them : List (List ℕ)). Comes first_world.list them (from_world first_world one) v.list)
-     (sym (committers-commits other) ∙ ap (λ (ls : List (List ℕ)). committers ls) (sym commits_same) ∙ committers-commits one)
-     (comes_same first_world.list (committers other) (from_world first_world other) (from_world first_world one) v.list
-      (λ agent.
-         sym (committed_by-own agent [] other)
-         ∙ ap (λ (ls : List (List ℕ)). committed_by agent [] ls) (sym (lines_same agent))
-         ∙ committed_by-own agent [] one)
-      (run_comes first_world v 0 other others run_too)))
+    (sym (committers-commits other) ∙ ap (λ (ls : List (List ℕ)). committers ls) (sym commits_same) ∙ committers-commits one)
+    (comes_same first_world.list (committers other) (from_world first_world other) (from_world first_world one) v.list
+    (λ agent.
+    sym (committed_by-own agent [] other)
+    ∙ ap (λ (ls : List (List ℕ)). committed_by agent [] ls) (sym (lines_same agent))
+    ∙ committed_by-own agent [] one)
+    (run_comes first_world v 0 other others run_too)))

@@ -109,8 +109,8 @@ module _ (s : Standing) (sound : IsSound s) (fixed : LeavesNothingOpen s) where
     lasted k at (Some e) ends lasts = subst (λ z. z <ℤ date (built s) e) on ((before_date s sound fixed t e (declared t at_t) (end_is_declared k at e ends)).0 lasts)
     lasted k at None ends lasts = λ c there against after begun.
         (let is : cut c ≡ true =
-            λ i. (against i && (before_date s sound fixed k.spot c.spot (spot_declared k at) (spot_declared c there)).1 after i)
-            && (by_date s sound fixed c.spot t (spot_declared c there) (declared t at_t)).1 (upto (date (built s) c.spot) begun) i in
+        λ i. (against i && (before_date s sound fixed k.spot c.spot (spot_declared k at) (spot_declared c there)).1 after i)
+        && (by_date s sound fixed c.spot t (spot_declared c there) (declared t at_t)).1 (upto (date (built s) c.spot) begun) i in
         let any : list_any cut (tokens s (all s sound)) ≡ true = In-list_any cut (tokens s (all s sound)) c there is in
         let none : not (list_any cut (tokens s (all s sound))) ≡ true = lasts in
         cc)

@@ -76,11 +76,11 @@ module _ (m : TimeMap) (held : List ℕ → Bool) where
           → IsTooLarge (a.size + brought_size (map name places)) stop
       rule_too_large a b stop first h =
           let parts = λ (xs ys : List ℕ). (let e : brought_size (map name (xs ++ ys)) ≡ brought_size (map name xs) + brought_size (map name ys) =
-              ap brought_size (map-append name xs ys) ∙ ap (sum_by (weight m)) (brought-append (map name xs) (map name ys)) ∙ sum_by-append (weight m) (brought (map name xs)) (brought (map name ys)) in e) in
+          ap brought_size (map-append name xs ys) ∙ ap (sum_by (weight m)) (brought-append (map name xs) (map name ys)) ∙ sum_by-append (weight m) (brought (map name xs)) (brought (map name ys)) in e) in
           let fewer : brought_size (map name (take (i + 1) places)) ≤ brought_size (map name places) = front_fewer (λ xs. brought_size (map name xs)) parts places (i + 1) in
           let more : brought_size (map name (take (i + 1) places)) ≡ brought_size (map name (take i places)) + brought_size (name (slice_index_or places i 0) ∷ []) =
-              ap brought_size more_names ∙ ap (sum_by (weight m)) (brought-append (map name (take i places)) (name (slice_index_or places i 0) ∷ []))
-              ∙ sum_by-append (weight m) (brought (map name (take i places))) (brought (name (slice_index_or places i 0) ∷ [])) in
+          ap brought_size more_names ∙ ap (sum_by (weight m)) (brought-append (map name (take i places)) (name (slice_index_or places i 0) ∷ []))
+          ∙ sum_by-append (weight m) (brought (map name (take i places))) (brought (name (slice_index_or places i 0) ∷ [])) in
           let size : b.size ≡ a.size + brought_size (map name (take i places)) = first.size in
           too_large-more (b.size + brought_size (name (slice_index_or places i 0) ∷ [])) (a.size + brought_size (map name places)) stop (omega arith) h
 
@@ -113,6 +113,6 @@ module _ (m : TimeMap) (held : List ℕ → Bool) where
         let parts = λ (xs ys : List Row). (let e : all_size (xs ++ ys) ≡ all_size xs + all_size ys = ap (sum_by (weight m)) (all_brought-append xs ys) ∙ sum_by-append (weight m) (all_brought xs) (all_brought ys) in e) in
         let fewer : all_size (take (i + 1) rows) ≤ all_size rows = front_fewer all_size parts rows (i + 1) in
         let more : all_size (take (i + 1) rows) ≡ all_size (take i rows) + sum_by (weight m) (effects_of m held (moment r)) =
-            ap (sum_by (weight m)) more_brought ∙ sum_by-append (weight m) (all_brought (take i rows)) (effects_of m held (moment r)) in
+        ap (sum_by (weight m)) more_brought ∙ sum_by-append (weight m) (all_brought (take i rows)) (effects_of m held (moment r)) in
         let size : b.size ≡ a.size + all_size (take i rows) = first.size in
         too_large-more (b.size + sum_by (weight m) (effects_of m held (moment r))) (a.size + all_size rows) stop (omega arith) h

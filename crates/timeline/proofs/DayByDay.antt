@@ -52,7 +52,7 @@ sizes_rise m d (suc n) le = elim (cases_lt d (suc n)) [
       let coming = filter (comes_on m n) now.played in
       let more = flat_map (effects_of m (is_held (holding_on m n (tokens m.list coming) now.holding))) coming in
       let whole : sum_by (weight m) (before_day m (suc n)).played ≡ sum_by (weight m) now.played + sum_by (weight m) more =
-          ap (λ (y : Day). sum_by (weight m) y.played) (next_day-is m n) ∙ sum_by-append (weight m) now.played more in
+      ap (λ (y : Day). sum_by (weight m) y.played) (next_day-is m n) ∙ sum_by-append (weight m) now.played more in
       omega (arith, sizes_rise m d n (omega arith), whole))
   | inr past ↦ (
       let last : d ≡ suc n = omega arith in

@@ -165,7 +165,7 @@ module _ (s : Standing) (sound : IsSound s) where
   known_once (suc d) = subst Distinct (sym (known_next d)) (Distinct-append (before_day (built s) d).played (effects d) (known_once d)
       (Distinct-flat_map (effects_of (built s) test) each one_event (coming d) (Distinct-filter (comes_on (built s) d) (before_day (built s) d).played (known_once d)))
       (λ x before new. (let e = effect_of d x new in
-          later (date (built s) e.event) e.today (event_before d e.event e.rule (subst (λ z. In z (before_day (built s) d).played) (sym e.is) before)))))
+      later (date (built s) e.event) e.today (event_before d e.event e.rule (subst (λ z. In z (before_day (built s) d).played) (sym e.is) before)))))
     where
       test : List ℕ → Bool
       test = is_held (holding_on (built s) d (tokens s (coming d)) (before_day (built s) d).holding)

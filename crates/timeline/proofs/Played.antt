@@ -98,13 +98,18 @@ module _ (s : Standing) (sound : IsSound s) where
         let (r, kept, same) = In-map (After t) (filter (brings_about (built s) (is_held (holding d)) t) (rules_at s t)) x here in
         let (stands, brings) = In-filter (brings_about (built s) (is_held (holding d)) t) (rules_at s t) r kept in
         let parts = both (int_le (due s (far_in s.premises) t r) (pos s.horizon)) (is_open (is_held (holding d)) (rule_of s r)) brings in
-        inr (t, r, same, record {
-          there = known_t;
-          on = comes d t on;
-          stands = stands;
-          in_time = at_most (due s (far_in s.premises) t r) (pos s.horizon) parts.0;
-          opened = parts.1;
-        })
+        inr (
+          t,
+          r,
+          same,
+          record {
+            there = known_t;
+            on = comes d t on;
+            stands = stands;
+            in_time = at_most (due s (far_in s.premises) t r) (pos s.horizon) parts.0;
+            opened = parts.1;
+          },
+        )
   ]
 
   pub known_on : (d : ℕ) (x : Moment) → In x (known d) → In x (known (suc d))

@@ -54,10 +54,10 @@ module _ (s : Standing) where
       → Brought (built s) (filter_map root_of (take i s.premises)) a b → IsTooLarge (b.size + roots_size (p ∷ [])) stop → StopsTimeline (built s) stop
   roots_too_large i p at a b stop none first h =
       let parts = λ (xs ys : List Premise). (let e : roots_size (xs ++ ys) ≡ roots_size xs + roots_size ys =
-          ap (sum_by (weight (built s))) (filter_map-append root_of xs ys) ∙ sum_by-append (weight (built s)) (filter_map root_of xs) (filter_map root_of ys) in e) in
+      ap (sum_by (weight (built s))) (filter_map-append root_of xs ys) ∙ sum_by-append (weight (built s)) (filter_map root_of xs) (filter_map root_of ys) in e) in
       let fewer : roots_size (take (i + 1) s.premises) ≤ roots_size s.premises = front_fewer roots_size parts s.premises (i + 1) in
       let more : roots_size (take (i + 1) s.premises) ≡ roots_size (take i s.premises) + roots_size (p ∷ []) =
-          ap (sum_by (weight (built s))) (more_roots i p at) ∙ sum_by-append (weight (built s)) (filter_map root_of (take i s.premises)) (filter_map root_of (p ∷ [])) in
+      ap (sum_by (weight (built s))) (more_roots i p at) ∙ sum_by-append (weight (built s)) (filter_map root_of (take i s.premises)) (filter_map root_of (p ∷ [])) in
       let first_day : sum_by (weight (built s)) (before_day (built s) 0).played ≡ roots_size s.premises = ap (sum_by (weight (built s))) (first_known-is (built s)) in
       let rise : sum_by (weight (built s)) (before_day (built s) 0).played ≤ sum_by (weight (built s)) (played (built s)) = sizes_rise (built s) 0 (suc s.horizon) (omega arith) in
       let size : b.size ≡ a.size + roots_size (take i s.premises) = first.size in

@@ -43,4 +43,3 @@ pub step_keeps : (old new : Standing) (k : ℕ) (line : List ℕ) (turn : Turn) 
 step_keeps old new k line NoReply kept step = unchanged old new kept step.1
 step_keeps old new k line Memory kept step = unchanged old new kept step.1
 step_keeps old new k line (ReplyOf bytes refused) kept (reply, answers, _, _) = answer_keeps old new line reply kept answers
-

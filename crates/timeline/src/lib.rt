@@ -30,16 +30,15 @@ ghost use Rattle.timeline.specs.Calendars.{IsBefore};
 ghost use Rattle.timeline.specs.Days.{played_size};
 ghost use Rattle.timeline.specs.Told.{IsTimeline, StopsTimeline};
 
-pub use laws::{dates_satisfy_constraints, played_is_believed};
-pub use mode::Dating;
-
 use crate::calendar::Calendar;
 use crate::dates::point_dates;
 use crate::kinds::RulesByKind;
 use crate::listing::listed;
 use crate::playing::play;
 use crate::roots::declared;
+pub use laws::{dates_satisfy_constraints, played_is_believed};
 use map_core::MapCore;
+pub use mode::Dating;
 use std::alloc::Global;
 use tmm_model::{Stop, Timeline};
 

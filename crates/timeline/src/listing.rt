@@ -31,11 +31,7 @@ pub(crate) fn listed(
 }
 
 // An entry for each occurrence, the last day first.
-fn entries(
-    alloc: Global,
-    standing: &Standing,
-    calendar: &Calendar,
-) -> Result<Vec<Entry>, NoMemory>
+fn entries(alloc: Global, standing: &Standing, calendar: &Calendar) -> Result<Vec<Entry>, NoMemory>
     requires kept { IsKept standing.now.present }
     requires played { IsBefore (built standing.now.present) (suc standing.now.present.horizon) calendar.now }
     ensures { IfOk result (λ entries. AreEntries (built standing.now.present) entries.items) }

@@ -62,7 +62,14 @@ fn play_day(
 {
     let today = take_out(alloc, &mut calendar.days, day as usize);
     let holding = holding_with(alloc, standing, day, before, today.as_slice())?;
-    bring_all(alloc, standing, rules, calendar, holding.as_slice(), today.as_slice())?;
+    bring_all(
+        alloc,
+        standing,
+        rules,
+        calendar,
+        holding.as_slice(),
+        today.as_slice(),
+    )?;
     put_back(&mut calendar.days, day as usize, today);
     Ok(holding)
 }

@@ -87,10 +87,7 @@ fn date_if(standing: &Standing, held: &Held, date: i64, row: &Row) -> Bound
     ensures { result ≡ later_bound (clashes standing.now.present held.now) date row.now }
 {
     match row.held {
-        Some(other) => bound_if(
-            date < row.date && clashes(standing, held, &other),
-            row.date,
-        ),
+        Some(other) => bound_if(date < row.date && clashes(standing, held, &other), row.date),
         None => Bound::Free,
     }
 }
@@ -98,7 +95,11 @@ fn date_if(standing: &Standing, held: &Held, date: i64, row: &Row) -> Bound
 fn bound_if(test: bool, date: i64) -> Bound
     ensures { result ≡ bound_if test date }
 {
-    if test { Bound::Finite(date) } else { Bound::Free }
+    if test {
+        Bound::Finite(date)
+    } else {
+        Bound::Free
+    }
 }
 
 /// Notes the tokens among the rows.

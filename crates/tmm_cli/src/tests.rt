@@ -309,10 +309,12 @@ fn agents_commit_all_that_they_hold_or_none_of_it(rt: HostRuntime) -> Result<(),
 
 /// A script of two agents: a batch with a word that is not declared yet, one that is taken, one
 /// that closes a cycle, and lines without an agent.
-const SHARED: &[u8] = b"@p point a\n@q point b\n@p dist d a b 3 7\n@p commit\n@q commit\n@p point a\n@p dist d a b 3 7\n@p commit\n@q dist e b a 0 *\n@q commit\nbounds a b\npoint c\n";
+const SHARED: &[u8] =
+    b"@p point a\n@q point b\n@p dist d a b 3 7\n@p commit\n@q commit\n@p point a\n@p dist d a b 3 7\n@p commit\n@q dist e b a 0 *\n@q commit\nbounds a b\npoint c\n";
 
 /// Its replies.
-const SHARED_REPLIES: &[u8] = b"1 held 1\n2 held 1\n3 held 2\n4 no batch 3\n  unknown b\n5 ok 1\n  line 2\n6 held 1\n7 held 2\n8 ok 2\n  line 6\n  line 7\n9 held 1\n10 no batch 9\n  cycle -3\n    e lo a b 0\n    d lo b a -3\n11 bounds 3 7\n12 no agent\n";
+const SHARED_REPLIES: &[u8] =
+    b"1 held 1\n2 held 1\n3 held 2\n4 no batch 3\n  unknown b\n5 ok 1\n  line 2\n6 held 1\n7 held 2\n8 ok 2\n  line 6\n  line 7\n9 held 1\n10 no batch 9\n  cycle -3\n    e lo a b 0\n    d lo b a -3\n11 bounds 3 7\n12 no agent\n";
 
 #[test]
 fn a_summary_may_break_off(rt: HostRuntime) -> Result<(), Fail> {

@@ -6,7 +6,9 @@ ghost use Rattle.tmm_program.specs.Program.{ProgramEnds, ScriptEnds, SummaryEnds
 
 use crate::command::{Command, command_of};
 use crate::demo::demo;
-use crate::sessions::{agents_session, plain_session, repairs_session, suppose_session, timeline_session};
+use crate::sessions::{
+    agents_session, plain_session, repairs_session, suppose_session, timeline_session,
+};
 use crate::usage::tell_usage;
 use map_core::{Copies, Opens};
 use std::alloc::Global;

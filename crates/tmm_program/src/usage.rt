@@ -15,7 +15,9 @@ pub(crate) fn tell_usage<K: Sink>(sink: &mut K) -> Status
     ensures write_fault { result ≡ Status.WriteFault → Rose (K.faults sink.old) (K.faults sink.new) }
     ensures sink_faults { result ≢ Status.WriteFault → K.faults sink.new ≡ K.faults sink.old }
 {
-    match sink.write_all(b"usage: tmm [demo N | suppose | agents | repairs | timeline], N from 1 to 1000\n") {
+    match sink.write_all(
+        b"usage: tmm [demo N | suppose | agents | repairs | timeline], N from 1 to 1000\n",
+    ) {
         Ok(()) => Status::Words,
         Err(_) => Status::WriteFault,
     }

@@ -11,7 +11,7 @@ returns-in-Some c q =
     let fits : FitsSigned w64 c.args.date = search rules in
     let below : c.in-Some.place < length c.args.coming.now.items = subst (λ (l : List Coming). c.in-Some.place < length l) c.as_slice.ensures.value c.in-Some.ensures.within in
     let same : c.index.result.now.held ≡ c.args.held.now =
-        ap (λ (x : Coming). x.held) (c.index.ensures ∙ (λ i. slice_index_or (sym c.as_slice.ensures.value i) c.in-Some.place c.index.result.now)) ∙ c.in-Some.ensures.is c.index.result.now in
+    ap (λ (x : Coming). x.held) (c.index.ensures ∙ (λ i. slice_index_or (sym c.as_slice.ensures.value i) c.in-Some.place c.index.result.now)) ∙ c.in-Some.ensures.is c.index.result.now in
     least_by-noted q c.args.coming.now.items c.in-Some.place c.index.result.now c.args.held.now c.args.date c.noted.result below c.index.ensures same c.noted.ensures.held (c.noted.ensures.date ∙ ap (int_min c.index.result.now.date) (to_z-of_z w64 c.args.date fits))
 
 pub returns-in_ok-push-in-None : goal.returns-in_ok-push-in-None
