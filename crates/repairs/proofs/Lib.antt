@@ -10,3 +10,6 @@ pub mod Erasing
 pub mod Loosening
 pub mod Formed
 pub mod Blames
+pub mod FreeNames
+pub mod Protected
+pub mod Taking
