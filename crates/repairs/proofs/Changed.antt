@@ -76,7 +76,7 @@ pub report_broken : (m : TimeMap) (r : List ℕ × Finding) → In r (reports m)
 report_broken m r at = In-list_any (λ s. same_name s.0 r.0) (reports m) r at (same_name-self r.0)
 
 -- a report has the name of a protection
-of_protection : (m : TimeMap) (o : Premise) (r : List ℕ × Finding) → broken m o ≡ Some r → protection_name o ≡ Some r.0
+pub of_protection : (m : TimeMap) (o : Premise) (r : List ℕ × Finding) → broken m o ≡ Some r → protection_name o ≡ Some r.0
 of_protection m (Protect name fact from to) r e = by (ask m fact (At from) (At to)) (does_hold (ask m fact (At from) (At to))) e
   where
     by : (found : Finding) (b : Bool) → (elim b as (λ _. Option (List ℕ × Finding)) [ true ↦ None | false ↦ Some (name, found) ]) ≡ Some r → Some name ≡ Some r.0

@@ -1,7 +1,7 @@
 -- The names that a list declares, and the first of the names `repair-0`, `repair-1` and so on that it
 -- does not.
-use Rattle.std.proofs.Common.{◌≡◌, ◌∙◌, ℕ, zero, suc, ◌+◌, ◌<◌, ◌≤◌, ◌^◌, Bool, true, false, ◌||◌, ◌&&◌, List, [], ◌∷◌, ◌++◌, map, length, refl, sym, ap, subst, inl, inr, arith, cond, le-leb, Bor}
-use Rattle.std.specs.Prelude.{is_some, sum_by, nat_le, decimal, drop, ◌==◌, Option, Some, None}
+use Rattle.std.proofs.Common.{◌≡◌, ◌∙◌, ℕ, zero, suc, ◌+◌, ◌<◌, ◌≤◌, ◌^◌, Bool, true, false, ◌||◌, ◌&&◌, List, [], ◌∷◌, ◌++◌, map, length, refl, sym, ap, subst, inl, inr, arith, cond, le-leb, Bor, take, length-append}
+use Rattle.std.specs.Prelude.{slice_get, unwrap_or, is_some, sum_by, nat_le, decimal, drop, ◌==◌, Option, Some, None}
 use Rattle.std.specs.List.{list_any, list_all}
 use Rattle.std.specs.Option.{option_copied}
 use Rattle.std.specs.Str.Parse.{AllDigits}
@@ -13,16 +13,18 @@ use Rattle.tmm_model.specs.declared.premise.Premise.{Premise}
 use Rattle.tmm_model.specs.Erasure.{is_among}
 use Rattle.tmm_model.specs.Names.{is_name, is_letter, is_name_byte}
 use Rattle.tmm_model.specs.Points.{same_name}
-use Rattle.tmm_model.specs.Sorts.{Sort, fact_declaration, declarations_in, class_in}
+use Rattle.tmm_model.specs.Sorts.{declared_by, Sort, fact_declaration, declarations_in, class_in}
 use Rattle.tmm_model.specs.Standing.{Standing, name_of, premise_in}
 use Rattle.tmm_model.specs.Verdicts.{words_known}
 use Rattle.list_theory.proofs.Distinct.{Distinct, sum_inside}
 use Rattle.list_theory.proofs.Elements.{In}
+use Rattle.list_theory.proofs.WellNamed.{words_known-push}
 use Rattle.premise_list.specs.Words.{facts_of}
 use Rattle.premise_list.proofs.Facts.{class_in-cons}
 use Rattle.premise_list.proofs.Lookups.{declarations_parted}
 use Rattle.repairs.specs.Repairs.{repair_name, is_declared, IsFreeName}
 use Rattle.repairs.proofs.Changed.{among_In, is_false}
+use Rattle.repairs.proofs.Growing.{one_got}
 
 -- ---- names of a list
 
@@ -131,3 +133,12 @@ named n small = λ i. digits_in_name (decimal n) (decimal_is_IsNumeral n (omega 
 pub is_some_copied : {X : Type 0} (o : Option (Bor X)) → is_some (option_copied o) ≡ is_some o
 is_some_copied None = refl
 is_some_copied (Some x) = refl
+
+-- ---- how many names there are
+
+-- one premise more declares its names more
+pub counted : (ps : List Premise) (i : ℕ) (p : Premise) → i < length ps → slice_get ps i ≡ Some p → length (words_known (take (i + 1) ps)) ≡ length (words_known (take i ps)) + length (declared_by p)
+counted ps i p within is =
+    let (q, got, one) = one_got ps i within in
+    let same : q ≡ p = ap (λ (o : Option Premise). unwrap_or o q) (sym got ∙ is) in
+    ap (λ l. length (words_known l)) (one ∙ ap (λ r. take i ps ++ r ∷ []) same) ∙ ap length (words_known-push (take i ps) p) ∙ length-append (words_known (take i ps)) (declared_by p)

@@ -13,3 +13,4 @@ pub mod Blames
 pub mod FreeNames
 pub mod Protected
 pub mod Taking
+pub mod Broken

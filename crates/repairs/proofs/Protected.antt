@@ -3,6 +3,7 @@ use Rattle.std.proofs.Common.{◌≡◌, ◌≢◌, ◌∙◌, ℕ, Bool, true, 
 use Rattle.std.specs.Prelude.{Option, Some, None}
 use Rattle.std.specs.List.{list_any}
 use Rattle.std.specs.Option.{option_map}
+use Rattle.tmm_model.specs.declared.point.PointName.{PointName}
 use Rattle.tmm_model.specs.declared.premise.Premise.{Premise}
 use Rattle.tmm_model.specs.declared.premise.Premise.TheVariants.{Class, Kind, Point, Event, Token, Span, Dist, Rule, Protect, Against}
 use Rattle.tmm_model.specs.Erasure.{is_among}
@@ -72,3 +73,23 @@ protection_found (o ∷ ps) n e = by (same_name n (name_of o)) (list_any (same_n
     by true b rest e = let one : own_sort o ≡ a_protection = cc in (o, refl, protects_by_sort o one)
     by false true rest e = cc
     by false false rest e = rest e
+
+pub no_protection : (ps : List Premise) (n : List ℕ) → ((p : Premise) → premise_in ps n ≡ Some p → protects p ≡ true → ⊥) → sort_in ps n ≢ Some a_protection
+no_protection ps n none e = let (p, is, protection) = protection_found ps n e in none p is protection
+
+-- a protection has the name under which it is found
+pub own_protection : (ps : List Premise) (n name fact : List ℕ) (from to : PointName) → premise_in ps n ≡ Some (Protect name fact from to) → premise_in ps n ≡ Some (Protect n fact from to)
+own_protection ps n name fact from to e = e ∙ ap (λ m. Some (Protect m fact from to)) (finds ps n (Protect name fact from to) e).1
+
+-- what is of no other form is no protection
+pub protects_not : (p : Premise) → ((name fact : List ℕ) (from to : PointName) → p ≡ Protect name fact from to → ⊥) → protects p ≡ true → ⊥
+protects_not (Protect name fact from to) never e = never name fact from to refl
+protects_not (Class name facts) never e = cc
+protects_not (Kind name) never e = cc
+protects_not (Point name) never e = cc
+protects_not (Event name kind) never e = cc
+protects_not (Token name fact) never e = cc
+protects_not (Span name fact) never e = cc
+protects_not (Dist name from to lo hi) never e = cc
+protects_not (Rule name trigger lo hi effect given unless_facts) never e = cc
+protects_not (Against name one other) never e = cc
