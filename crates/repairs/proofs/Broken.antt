@@ -1,7 +1,8 @@
 -- What the reports on broken protections tell of a protection that is found under its name.
-use Rattle.std.proofs.Common.{◌≡◌, ◌∙◌, ℕ, Bool, true, false, List, [], map, refl, sym, ap, subst}
+use Rattle.std.proofs.Common.{◌≡◌, ◌≢◌, ◌∙◌, ℕ, Bool, true, false, List, [], map, refl, sym, ap, subst}
 use Rattle.std.specs.Prelude.{Option, Some, None, unwrap_or}
-use Rattle.std.specs.List.{Contains, list_any}
+use Rattle.std.specs.List.{All, Contains}
+use Rattle.std.proofs.lemmas.List.Elements.{All-contains}
 use Rattle.tmm_model.specs.declared.answer.Report.{Report}
 use Rattle.tmm_model.specs.declared.point.PointName.{PointName}
 use Rattle.tmm_model.specs.declared.premise.Premise.{Premise}
@@ -10,14 +11,12 @@ use Rattle.tmm_model.specs.Answers.{Finding, holds, fails, unordered, does_hold,
 use Rattle.tmm_model.specs.Changes.{is_broken}
 use Rattle.tmm_model.specs.Maps.{built}
 use Rattle.tmm_model.specs.Moments.{At}
-use Rattle.tmm_model.specs.Points.{same_name}
 use Rattle.tmm_model.specs.Standing.{Standing, name_of, premise_in}
-use Rattle.walk_theory.proofs.Points.{same_name-self}
 use Rattle.list_theory.specs.WellNamed.{IsWellNamed}
-use Rattle.list_theory.proofs.Elements.{In, In-from_Contains, In-list_any, In-filter_map, filter_map-In, In-map, map-In}
+use Rattle.list_theory.proofs.Elements.{In, In-from_Contains, Contains-from_In, In-filter_map, filter_map-In, In-map, map-In}
 use Rattle.list_theory.proofs.KnownNames.{found, finds}
 use Rattle.repairs.specs.Repairs.{candidates_for, candidates_of, candidates_about}
-use Rattle.repairs.proofs.Changed.{of_protection, named_protects, report_broken, not_both}
+use Rattle.repairs.proofs.Changed.{of_protection, named_protects, report_broken}
 
 module _ (s : Standing) (named : IsWellNamed s.premises) (name fact : List ℕ) (from to : PointName) (is : premise_in s.premises name ≡ Some (Protect name fact from to))
     (told : List Report) (tell : map report_of told ≡ reports (built s)) where
@@ -58,7 +57,7 @@ module _ (s : Standing) (named : IsWellNamed s.premises) (name fact : List ℕ) 
       }
 
   -- **Where there is none it has no candidates.**
-  pub none_told : list_any (λ (r : Report). same_name r.name name) told ≡ false → candidates_of s name ≡ []
+  pub none_told : All (λ (r : Report). r.name ≢ name) told → candidates_of s name ≡ []
   none_told none = candidates ∙ by answer refl
     where
       never : does_hold answer ≡ false → ⊥
@@ -67,8 +66,7 @@ module _ (s : Standing) (named : IsWellNamed s.premises) (name fact : List ℕ) 
           let here : In (name, answer) (reports (built s)) = filter_map-In (broken (built s)) s.premises (Protect name fact from to) (name, answer) (finds s.premises name (Protect name fact from to) is).0 asked in
           let (r, at, same) = In-map report_of told (name, answer) (subst (In (name, answer)) (sym tell) here) in
           let own : r.name ≡ name = ap (λ (z : List ℕ × Finding). z.0) same in
-          not_both (list_any (λ (r : Report). same_name r.name name) told)
-          (In-list_any (λ (r : Report). same_name r.name name) told r at (subst (λ n. same_name n name ≡ true) (sym own) (same_name-self name))) none
+          All-contains (λ (r : Report). r.name ≢ name) told r none (Contains-from_In told r at) own
 
       by : (found : Finding) → answer ≡ found → candidates_for s from to found ≡ []
       by (holds k) e = refl

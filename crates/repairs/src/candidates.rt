@@ -1,12 +1,11 @@
 // The candidates for a broken protection, tried one after the other.
-ghost use Rattle.std.specs.Prelude.{◌≡◌, ◌↔◌, IsTrue, ◌<◌, ℕ, false, [], ◌∷◌, None, map, length, slice_get, Some, OnOk, IfOk, IfErr, IfNone, IfSome};
-ghost use Rattle.std.specs.List.{All, Contains, flat_map, list_any};
+ghost use Rattle.std.specs.Prelude.{◌≡◌, ◌≢◌, ◌↔◌, IsTrue, ◌<◌, ℕ, false, [], ◌∷◌, None, map, length, slice_get, Some, OnOk, IfOk, IfErr, IfNone, IfSome};
+ghost use Rattle.std.specs.List.{All, Contains, flat_map};
 ghost use Rattle.tmm_model.specs.declared.bound.Bound.TheVariants.{Finite, Free};
 ghost use Rattle.tmm_model.specs.declared.premise.Premise.{Premise as Stated};
 ghost use Rattle.tmm_model.specs.declared.premise.Premise.TheVariants.{Dist};
 ghost use Rattle.tmm_model.specs.Answers.{blame_of, does_hold, finding_of};
 ghost use Rattle.tmm_model.specs.Lines.{IsNumber, IsWellFormedEdit, IsWellFormedPremise};
-ghost use Rattle.tmm_model.specs.Points.{same_name};
 ghost use Rattle.tmm_model.specs.Sorts.{sort_in};
 ghost use Rattle.tmm_model.specs.Standing.{name_of};
 ghost use Rattle.tmm_model.specs.Verdicts.{list_cause, name_cause};
@@ -61,7 +60,7 @@ pub fn repairs<M: Copies + Drop>(alloc: Global, core: &mut M, name: Name) -> Res
 // The report on the protection of this name.
 fn report_of(broken: &[Report], name: Name) -> Option<&Report>
     ensures found { IfSome result (λ report. Contains broken.now report.now × (report.now.name ≡ name)) }
-    ensures other { IfNone result (list_any (λ report. same_name report.name name) broken.now ≡ false) }
+    ensures other { IfNone result (All (λ report. report.name ≢ name) broken.now) }
 {
     broken.iter().find(|report| report.name == name)
 }
