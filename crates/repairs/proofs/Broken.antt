@@ -18,6 +18,13 @@ use Rattle.list_theory.proofs.KnownNames.{found, finds}
 use Rattle.repairs.specs.Repairs.{candidates_for, candidates_of, candidates_about}
 use Rattle.repairs.proofs.Changed.{of_protection, named_protects, report_broken}
 
+-- a report on the protection of this name: the candidates are those for what it tells, which is not
+-- that the fact holds
+pub record IsToldOf (s : Standing) (name : List ℕ) (from to : PointName) (r : Report) : Type 0 where
+  pub answers : candidates_of s name ≡ candidates_for s from to (finding_of r.answer)
+  pub fails : does_hold (finding_of r.answer) ≡ false
+  pub broken : is_broken (built s) name ≡ true
+
 module _ (s : Standing) (named : IsWellNamed s.premises) (name fact : List ℕ) (from to : PointName) (is : premise_in s.premises name ≡ Some (Protect name fact from to))
     (told : List Report) (tell : map report_of told ≡ reports (built s)) where
   abbrev answer : Finding
@@ -27,12 +34,6 @@ module _ (s : Standing) (named : IsWellNamed s.premises) (name fact : List ℕ) 
   candidates : candidates_of s name ≡ candidates_for s from to answer
   candidates = ap (candidates_about s) is
 
-  -- a report on it
-  pub record IsToldOf (r : Report) : Type 0 where
-    pub answers : candidates_of s name ≡ candidates_for s from to (finding_of r.answer)
-    pub fails : does_hold (finding_of r.answer) ≡ false
-    pub broken : is_broken (built s) name ≡ true
-
   value : (found : Finding) (b : Bool) → does_hold found ≡ b → (other : List ℕ × Finding) → (elim b as (λ _. Option (List ℕ × Finding)) [ true ↦ None | false ↦ Some (name, found) ]) ≡ Some other
       → (other.1 ≡ found) × (does_hold other.1 ≡ false)
   value found true e other never = cc
@@ -41,7 +42,7 @@ module _ (s : Standing) (named : IsWellNamed s.premises) (name fact : List ℕ) 
       let second : other.1 ≡ found = sym (ap (λ (z : List ℕ × Finding). z.1) one) in
       (second, ap does_hold second ∙ e)
 
-  pub told_of : (r : Report) → Contains told r → r.name ≡ name → IsToldOf r
+  told_of : (r : Report) → Contains told r → r.name ≡ name → IsToldOf s name from to r
   told_of r at same =
       let here : In (report_of r) (reports (built s)) = subst (In (report_of r)) tell (map-In report_of told r (In-from_Contains told r at)) in
       let (o, there, reported) = In-filter_map (broken (built s)) s.premises (report_of r) here in
@@ -56,8 +57,7 @@ module _ (s : Standing) (named : IsWellNamed s.premises) (name fact : List ℕ) 
         broken = subst (λ n. is_broken (built s) n ≡ true) same (report_broken (built s) (report_of r) here);
       }
 
-  -- **Where there is none it has no candidates.**
-  pub none_told : All (λ (r : Report). r.name ≢ name) told → candidates_of s name ≡ []
+  none_told : All (λ (r : Report). r.name ≢ name) told → candidates_of s name ≡ []
   none_told none = candidates ∙ by answer refl
     where
       never : does_hold answer ≡ false → ⊥
@@ -72,3 +72,23 @@ module _ (s : Standing) (named : IsWellNamed s.premises) (name fact : List ℕ) 
       by (holds k) e = refl
       by (fails blames more) e = absurd (never (ap does_hold e))
       by unordered e = absurd (never (ap does_hold e))
+
+-- What is found of a protection, where all is told of one list: its premises are well named, the
+-- protection is found in it, and these are its reports.
+module _ (s one other : Standing) (same : one ≡ s) (named : IsWellNamed one.premises) (alike : other ≡ s) (name : List ℕ) (from to : PointName)
+    (finds_it : (fact : List ℕ) × (premise_in other.premises name ≡ Some (Protect name fact from to))) (items told : List Report) (shown : items ≡ told) (tell : map report_of told ≡ reports (built s)) where
+  well_named : IsWellNamed s.premises
+  well_named = subst (λ l. IsWellNamed l.premises) same named
+
+  is : premise_in s.premises name ≡ Some (Protect name finds_it.0 from to)
+  is = sym (ap (λ l. premise_in l.premises name) alike) ∙ finds_it.1
+
+  tells : map report_of items ≡ reports (built s)
+  tells = ap (map report_of) shown ∙ tell
+
+  pub told_in : (r : Report) → Contains items r × (r.name ≡ name) → IsToldOf s name from to r
+  told_in r (at, own) = told_of s well_named name finds_it.0 from to is items tells r at own
+
+  -- **Where there is none it has no candidates.**
+  pub none_in : All (λ (r : Report). r.name ≢ name) items → candidates_of s name ≡ []
+  none_in none = none_told s well_named name finds_it.0 from to is items tells none
