@@ -7,7 +7,7 @@ use Rattle.tmm_model.specs.declared.answer.Report.{Report}
 use Rattle.tmm_model.specs.declared.point.PointName.{PointName}
 use Rattle.tmm_model.specs.declared.premise.Premise.{Premise}
 use Rattle.tmm_model.specs.declared.premise.Premise.TheVariants.{Protect}
-use Rattle.tmm_model.specs.Answers.{Finding, holds, fails, unordered, does_hold, ask, as_broken, broken, reports, finding_of, report_of}
+use Rattle.tmm_model.specs.Answers.{Finding, holds, fails, unordered, does_hold, ask, broken, reports, finding_of, report_of}
 use Rattle.tmm_model.specs.Changes.{is_broken}
 use Rattle.tmm_model.specs.Maps.{built}
 use Rattle.tmm_model.specs.Moments.{At}

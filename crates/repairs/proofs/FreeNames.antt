@@ -22,7 +22,7 @@ use Rattle.list_theory.proofs.WellNamed.{words_known-push}
 use Rattle.premise_list.specs.Words.{facts_of}
 use Rattle.premise_list.proofs.Facts.{class_in-cons}
 use Rattle.premise_list.proofs.Lookups.{declarations_parted}
-use Rattle.repairs.specs.Repairs.{repair_name, is_declared, IsFreeName}
+use Rattle.repairs.specs.Repairs.{repair_name, is_declared}
 use Rattle.repairs.proofs.Changed.{among_In, is_false}
 use Rattle.repairs.proofs.Growing.{one_got}
 

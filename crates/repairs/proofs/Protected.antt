@@ -1,6 +1,6 @@
 -- What a well-named list declares under the name of a premise, and of a protection.
 use Rattle.std.proofs.Common.{◌≡◌, ◌≢◌, ◌∙◌, ℕ, Bool, true, false, ◌||◌, cond, List, [], ◌∷◌, ◌++◌, refl, sym, ap, subst, inl, inr}
-use Rattle.std.specs.Prelude.{Option, Some, None}
+use Rattle.std.specs.Prelude.{Some}
 use Rattle.std.specs.List.{list_any}
 use Rattle.std.specs.Option.{option_map}
 use Rattle.tmm_model.specs.declared.point.PointName.{PointName}
@@ -8,7 +8,7 @@ use Rattle.tmm_model.specs.declared.premise.Premise.{Premise}
 use Rattle.tmm_model.specs.declared.premise.Premise.TheVariants.{Class, Kind, Point, Event, Token, Span, Dist, Rule, Protect, Against}
 use Rattle.tmm_model.specs.Erasure.{is_among}
 use Rattle.tmm_model.specs.Points.{same_name}
-use Rattle.tmm_model.specs.Sorts.{Sort, a_fact, a_protection, sort_in}
+use Rattle.tmm_model.specs.Sorts.{a_fact, a_protection, sort_in}
 use Rattle.tmm_model.specs.Standing.{name_of, premise_in}
 use Rattle.tmm_model.specs.Verdicts.{words_known}
 use Rattle.list_theory.specs.WellNamed.{AllFollow, IsWellNamed}

@@ -1,4 +1,4 @@
-use Rattle.std.proofs.Common.{◌≡◌, ◌<◌, ◌∙◌, ◌+◌, ap, sym, subst, take, length, arith}
+use Rattle.std.proofs.Common.{◌≡◌, ◌<◌, ◌∙◌, ◌+◌, ap, subst, take, length, arith}
 use Rattle.std.specs.Prelude.{slice_get, Some}
 use Rattle.tmm_model.specs.declared.premise.Premise.{Premise}
 use Rattle.repairs.specs.Aims.{GrowsBy}

@@ -1,4 +1,4 @@
-use Rattle.std.proofs.Common.{◌≡◌, ◌++◌, sym, subst, []}
+use Rattle.std.proofs.Common.{◌++◌, sym, subst, []}
 use Rattle.std.specs.List.{flat_map}
 use Rattle.tmm_model.specs.Answers.{finding_of}
 use Rattle.repairs.specs.Aims.{GrowsBy}

@@ -1,15 +1,15 @@
-use Rattle.std.proofs.Common.{◌≡◌, ◌∙◌, ◌<◌, sym, subst, [], ◌∷◌}
-use Rattle.std.specs.Prelude.{OnOk, Some, IfSome, slice_get}
+use Rattle.std.proofs.Common.{◌≡◌, ◌∙◌, sym, subst, [], ◌∷◌}
+use Rattle.std.specs.Prelude.{Some, IfSome, slice_get}
 use Rattle.std.specs.List.{Contains}
 use Rattle.tmm_model.specs.declared.bound.Bound.TheVariants.{Finite}
-use Rattle.tmm_model.specs.declared.fix.Fix.TheVariants.{Erase as ErasePremise, LoosenLo, LoosenHi}
+use Rattle.tmm_model.specs.declared.fix.Fix.TheVariants.{LoosenLo, LoosenHi}
 use Rattle.tmm_model.specs.declared.premise.Premise.{Premise}
 use Rattle.tmm_model.specs.declared.premise.Premise.TheVariants.{Dist}
 use Rattle.tmm_model.specs.Standing.{name_of}
 use Rattle.repairs.specs.Aims.{GrowsBy}
-use Rattle.repairs.specs.Repairs.{IsRepair, taken_from}
+use Rattle.repairs.specs.Repairs.{IsRepair}
 use Rattle.list_theory.proofs.Elements.{In-slice_get, Contains-from_In}
-use Rattle.repairs.proofs.Growing.{Grows, Grows-append, on_success, one_got}
+use Rattle.repairs.proofs.Growing.{on_success}
 use Rattle.repairs.proofs.Taking.{name_at, grown}
 use Rattle.repairs.proofs.candidates.try_taken_at.Goals as goal
 
