@@ -6,13 +6,12 @@ use Rattle.std.proofs.lemmas.List.{nil_from_length}
 use Rattle.tmm_model.specs.declared.answer.Blame.{Blame}
 use Rattle.tmm_model.specs.declared.answer.Cause.{Cause}
 use Rattle.tmm_model.specs.declared.answer.Cause.TheVariants.{Late, Clipped, Ends}
-use Rattle.tmm_model.specs.declared.fix.Fix.{Fix}
 use Rattle.tmm_model.specs.declared.fix.Fix.TheVariants.{Add as AddConstraint}
 use Rattle.tmm_model.specs.declared.point.Occ.{Occ}
 use Rattle.tmm_model.specs.declared.point.PointName.{PointName}
 use Rattle.tmm_model.specs.declared.point.PointName.TheVariants.{Begin, End}
 use Rattle.tmm_model.specs.Answers.{Fault, fault_of, blame_of}
-use Rattle.tmm_model.specs.Moments.{Moment, At, After, along, moment_of}
+use Rattle.tmm_model.specs.Moments.{Moment, At, After, along}
 use Rattle.repairs.specs.Repairs.{added_against}
 
 -- none for what a rule brings about

@@ -1,7 +1,7 @@
 -- What the changes of an edit tell of broken protections, and of protections that are erased.
-use Rattle.std.proofs.Common.{◌≡◌, ◌∙◌, ◌⊎◌, ◌↔◌, ℕ, Bool, true, false, List, [], ◌∷◌, map, refl, sym, ap, subst, inl, inr}
-use Rattle.std.specs.Prelude.{Option, Some, None, not, ◌&&◌, filter, cond}
-use Rattle.std.specs.List.{list_any, list_all, filter_map, Contains, All}
+use Rattle.std.proofs.Common.{◌≡◌, ◌∙◌, ℕ, Bool, true, false, List, [], ◌∷◌, map, refl, sym, ap, subst, inl, inr}
+use Rattle.std.specs.Prelude.{Option, Some, None, not, ◌&&◌}
+use Rattle.std.specs.List.{list_any, list_all, filter_map}
 use Rattle.std.specs.Option.{is_none}
 use Rattle.std.proofs.lemmas.Bool.{false≢true}
 use Rattle.tmm_model.specs.declared.premise.Premise.{Premise}
@@ -14,10 +14,9 @@ use Rattle.tmm_model.specs.Maps.{TimeMap, built}
 use Rattle.tmm_model.specs.Moments.{At}
 use Rattle.tmm_model.specs.Points.{same_name}
 use Rattle.tmm_model.specs.Standing.{Standing, name_of, premise_in}
-use Rattle.walk_theory.proofs.Members.{All-from_contains}
 use Rattle.walk_theory.proofs.Points.{same_name-is, same_name-self}
 use Rattle.list_theory.specs.WellNamed.{IsWellNamed}
-use Rattle.list_theory.proofs.Elements.{In, In-from_Contains, Contains-from_In, list_any-In, In-list_any, In-filter, filter-In, In-filter_map, filter_map-In, In-map, map-In, both}
+use Rattle.list_theory.proofs.Elements.{In, list_any-In, In-list_any, In-filter, filter-In, In-filter_map, filter_map-In, In-map, map-In, both}
 use Rattle.list_theory.proofs.Erasure.{kept_before, kept_without-IsWellNamed}
 use Rattle.list_theory.proofs.KnownNames.{found, finds}
 use Rattle.repairs.specs.Repairs.{protects}
@@ -76,7 +75,7 @@ pub report_broken : (m : TimeMap) (r : List ℕ × Finding) → In r (reports m)
 report_broken m r at = In-list_any (λ s. same_name s.0 r.0) (reports m) r at (same_name-self r.0)
 
 -- a report has the name of a protection
-of_protection : (m : TimeMap) (o : Premise) (r : List ℕ × Finding) → broken m o ≡ Some r → protection_name o ≡ Some r.0
+pub of_protection : (m : TimeMap) (o : Premise) (r : List ℕ × Finding) → broken m o ≡ Some r → protection_name o ≡ Some r.0
 of_protection m (Protect name fact from to) r e = by (ask m fact (At from) (At to)) (does_hold (ask m fact (At from) (At to))) e
   where
     by : (found : Finding) (b : Bool) → (elim b as (λ _. Option (List ℕ × Finding)) [ true ↦ None | false ↦ Some (name, found) ]) ≡ Some r → Some name ≡ Some r.0

@@ -1,19 +1,19 @@
 -- What a list of well-formed premises says of points and constraints.
-use Rattle.std.proofs.Common.{◌≡◌, ◌≢◌, ℕ, ℤ, Bool, true, false, List, [], ◌∷◌, ◌++◌, refl, sym, ◌∙◌, ap, subst, inl, inr, codes}
+use Rattle.std.proofs.Common.{◌≡◌, ◌≢◌, ℕ, ℤ, false, List, [], ◌∷◌, ◌++◌, refl, sym, ◌∙◌, ap, subst, inl, inr, codes}
 use Rattle.std.specs.Prelude.{None}
-use Rattle.std.specs.List.{All, Contains, flat_map}
+use Rattle.std.specs.List.{All, flat_map}
 use Rattle.std.proofs.lemmas.Bool.{false≢true}
 use Rattle.std.proofs.lemmas.List.Elements.{All-contains}
 use Rattle.tmm_model.specs.declared.bound.Bound.TheVariants.{Finite, Free}
 use Rattle.tmm_model.specs.declared.point.PointName.{PointName}
-use Rattle.tmm_model.specs.declared.point.PointName.TheVariants.{Start, Begin, End}
+use Rattle.tmm_model.specs.declared.point.PointName.TheVariants.{Start}
 use Rattle.tmm_model.specs.declared.premise.Edit.TheVariants.{Add}
 use Rattle.tmm_model.specs.declared.premise.Premise.{Premise}
 use Rattle.tmm_model.specs.declared.premise.Premise.TheVariants.{Class, Kind, Point, Event, Token, Span, Dist, Rule, Protect, Against}
 use Rattle.tmm_model.specs.Lines.{IsName, IsNumber, IsWellFormedPoint, IsWellFormedPremise}
-use Rattle.tmm_model.specs.Sorts.{is_reserved, declared_by, a_place, uses_of}
+use Rattle.tmm_model.specs.Sorts.{is_reserved, a_place, uses_of}
 use Rattle.tmm_model.specs.Standing.{Standing, name_of, points_of, points_in}
-use Rattle.tmm_model.specs.Verdicts.{add_cause, first_taken, list_cause, place_cause, words_known}
+use Rattle.tmm_model.specs.Verdicts.{first_taken, list_cause, place_cause, words_known}
 use Rattle.list_theory.specs.WellNamed.{AllFollow, IsWellNamed}
 use Rattle.list_theory.proofs.Adding.{may_be_added, each_use}
 use Rattle.list_theory.proofs.Elements.{In, In-from_Contains, Contains-from_In, In-flat_map}

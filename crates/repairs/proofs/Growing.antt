@@ -1,9 +1,9 @@
 -- Lists of those candidates that are repairs, one after the other.
-use Rattle.std.proofs.Common.{◌≡◌, List, [], ◌∷◌, ◌++◌, refl, sym, ◌∙◌, ap, subst, inl, inr, append-nil, append_assoc, ℕ, ◌+◌, ◌<◌, take, length, get_or}
+use Rattle.std.proofs.Common.{◌≡◌, List, [], ◌∷◌, ◌++◌, refl, sym, ◌∙◌, ap, subst, inl, inr, append-nil, append_assoc, ℕ, zero, suc, ◌+◌, ◌<◌, take, length, get_or, arith}
 use Rattle.std.specs.List.{flat_map}
 use Rattle.std.proofs.lemmas.Grind.{flat_map-append}
 use Rattle.std.proofs.lemmas.List.{take_more}
-use Rattle.std.specs.Prelude.{Result, Ok, Err, OnOk}
+use Rattle.std.specs.Prelude.{Result, Ok, Err, OnOk, Some, slice_get}
 use Rattle.repairs.specs.Repairs.{AreThose}
 
 -- the second list goes on from the first with those of which P holds
@@ -57,3 +57,12 @@ on_success (Err e) f p = tt
 -- the elements up to and with the one that is read
 pub one_more : {X : Type 0} (xs : List X) (i : ℕ) (x : X) → i < length xs → x ≡ get_or xs i x → take (i + 1) xs ≡ take i xs ++ x ∷ []
 one_more {X} xs i x within is = take_more xs i x within ∙ ap (λ (y : X). take i xs ++ y ∷ []) (sym is)
+
+-- so it is of what is got at a place
+pub one_got : {X : Type 0} (xs : List X) (i : ℕ) → i < length xs → (x : X) × (slice_get xs i ≡ Some x) × (take (i + 1) xs ≡ take i xs ++ x ∷ [])
+one_got {X} xs i within = let (x, got, read) = at xs i within in (x, got, one_more xs i x within (sym read))
+  where
+    at : (xs : List X) (i : ℕ) → i < length xs → (x : X) × (slice_get xs i ≡ Some x) × (get_or xs i x ≡ x)
+    at [] i within = absurd (omega (arith, within))
+    at (x ∷ xs) zero within = (x, refl, refl)
+    at (x ∷ xs) (suc i) within = at xs i (omega (arith, within))

@@ -1,7 +1,7 @@
 -- What the changes of one edit tell of a repair.
-use Rattle.std.proofs.Common.{◌≡◌, ◌↔◌, ℕ, Bool, true, false, List, [], ◌∷◌, ◌++◌, map, cond, refl, sym, ◌∙◌, ap, subst, inl, inr}
-use Rattle.std.specs.Prelude.{Option, Some, None, not, ◌&&◌, filter}
-use Rattle.std.specs.List.{list_any, Contains, All}
+use Rattle.std.proofs.Common.{◌≡◌, ◌↔◌, ℕ, Bool, true, false, List, [], ◌∷◌, map, cond, refl, sym, ◌∙◌, ap, subst, inl, inr}
+use Rattle.std.specs.Prelude.{Some, ◌&&◌, filter}
+use Rattle.std.specs.List.{list_any, Contains}
 use Rattle.std.specs.Option.{is_none}
 use Rattle.std.proofs.lemmas.Bool.{false≢true}
 use Rattle.std.proofs.lemmas.List.Elements.{All-contains}
@@ -21,7 +21,7 @@ use Rattle.list_theory.specs.WellNamed.{IsWellNamed}
 use Rattle.list_theory.proofs.Elements.{In, In-from_Contains, Contains-from_In, In-left, In-filter, filter-In, In-map, list_any-In, both}
 use Rattle.repairs.specs.Repairs.{protects, Mends}
 use Rattle.repairs.specs.Told.{names_protection, spares_protections, names_in, are_none, tells_mended}
-use Rattle.repairs.proofs.Changed.{is_false, not_both, not-false, both_true, among_In, In_among, report_broken, broken_protects, same_protections, protections_in, reported, harmed, told_harmed, mended, told_mended, spared, none_erased}
+use Rattle.repairs.proofs.Changed.{is_false, not_both, not-false, both_true, among_In, In_among, report_broken, broken_protects, same_protections, reported, harmed, told_harmed, mended, told_mended, spared, none_erased}
 
 -- each protection of one list stands in another
 abbrev pub Stand : List Premise → List Premise → Type 0

@@ -1,5 +1,5 @@
 -- What the changes of an erasure, and of a constraint that is added after it, tell of a repair.
-use Rattle.std.proofs.Common.{◌≡◌, ◌∙◌, ◌⊎◌, ◌↔◌, ℕ, Bool, true, false, List, [], ◌∷◌, ◌++◌, refl, sym, ap, subst, inl, inr}
+use Rattle.std.proofs.Common.{◌≡◌, ◌∙◌, ℕ, Bool, true, false, List, [], ◌∷◌, refl, sym, ap, subst, inl, inr}
 use Rattle.std.specs.Prelude.{not, ◌&&◌, ◌||◌, filter}
 use Rattle.std.specs.List.{list_all, Contains, All}
 use Rattle.std.proofs.lemmas.Bool.{false≢true, or_left, or_right}
@@ -7,16 +7,16 @@ use Rattle.tmm_model.specs.declared.premise.Premise.{Premise}
 use Rattle.tmm_model.specs.Answers.{Finding, reports}
 use Rattle.tmm_model.specs.Changes.{Delta, changes, is_broken}
 use Rattle.tmm_model.specs.Edits.{list_with, list_without}
-use Rattle.tmm_model.specs.Erasure.{is_among, kept_without}
+use Rattle.tmm_model.specs.Erasure.{is_among}
 use Rattle.tmm_model.specs.Maps.{built}
 use Rattle.tmm_model.specs.Standing.{Standing}
 use Rattle.walk_theory.proofs.Members.{All-from_contains}
 use Rattle.list_theory.specs.WellNamed.{IsWellNamed}
-use Rattle.list_theory.proofs.Elements.{In, In-from_Contains, Contains-from_In, In-left, In-cases, In-filter, filter-In, list_all-In, each_in, both}
+use Rattle.list_theory.proofs.Elements.{In, In-from_Contains, Contains-from_In, In-left, In-cases, In-filter, filter-In, list_all-In, both}
 use Rattle.std.proofs.lemmas.List.Elements.{All-contains}
 use Rattle.repairs.specs.Repairs.{protects, Mends}
 use Rattle.repairs.specs.Told.{spares_protections, names_in, tell_mended}
-use Rattle.repairs.proofs.Changed.{is_false, not_both, not-true, not-false, both_true, all_from_In, among_In, In_among, named_In, reported, report_broken, broken_protects, protections_in, same_protections, harmed, told_harmed, mended, told_mended, stood, spared, none_erased}
+use Rattle.repairs.proofs.Changed.{is_false, not_both, not-true, not-false, both_true, all_from_In, among_In, In_among, reported, report_broken, broken_protects, same_protections, harmed, told_harmed, mended, told_mended, spared, none_erased}
 
 module _ (old : Standing) (well_named : IsWellNamed old.premises) (name n : List ℕ) (p : Premise) (other : protects p ≡ false) where
   abbrev middle : Standing

@@ -10,3 +10,7 @@ pub mod Erasing
 pub mod Loosening
 pub mod Formed
 pub mod Blames
+pub mod FreeNames
+pub mod Protected
+pub mod Taking
+pub mod Broken

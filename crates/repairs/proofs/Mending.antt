@@ -1,10 +1,9 @@
 -- What edits are found to be, and repairs.
-use Rattle.std.proofs.Common.{◌≡◌, ◌<◌, ◌⊎◌, ℕ, Bool, true, false, List, [], ◌∷◌, refl, sym, ◌∙◌, ap, subst, inl, inr, arith}
+use Rattle.std.proofs.Common.{◌≡◌, ◌<◌, ℕ, false, List, [], ◌∷◌, refl, sym, ◌∙◌, ap, subst, arith}
 use Rattle.tmm_model.specs.declared.fix.Fix.{Fix}
 use Rattle.tmm_model.specs.declared.premise.Edit.{Edit}
 use Rattle.tmm_model.specs.declared.premise.Edit.TheVariants.{Add, Erase}
 use Rattle.tmm_model.specs.declared.premise.Premise.{Premise}
-use Rattle.tmm_model.specs.Changes.{changes}
 use Rattle.tmm_model.specs.Edits.{next_list, list_with, list_without}
 use Rattle.tmm_model.specs.Kept.{IsAccepted}
 use Rattle.tmm_model.specs.Standing.{Standing}

@@ -1,5 +1,5 @@
 -- What holds while candidates are tried.
-use Rattle.std.specs.Prelude.{◌≡◌, true, List, ◌++◌, Option, None}
+use Rattle.std.specs.Prelude.{◌≡◌, true, List, ◌++◌}
 use Rattle.std.specs.List.{All}
 use Rattle.tmm_model.specs.declared.fix.Fix.{Fix}
 use Rattle.tmm_model.specs.Changes.{is_broken}

@@ -10,7 +10,7 @@ use Rattle.tmm_model.specs.declared.premise.Edit.{Edit}
 use Rattle.tmm_model.specs.declared.premise.Edit.TheVariants.{Add, Erase}
 use Rattle.tmm_model.specs.declared.premise.Premise.{Premise}
 use Rattle.tmm_model.specs.declared.premise.Premise.TheVariants.{Dist, Protect}
-use Rattle.tmm_model.specs.Answers.{Fault, late, clipped, ends, Finding, holds, fails, unordered, ask, reports}
+use Rattle.tmm_model.specs.Answers.{Fault, late, ends, Finding, holds, fails, unordered, ask, reports}
 use Rattle.tmm_model.specs.Changes.{is_broken}
 use Rattle.tmm_model.specs.Edits.{next_list}
 use Rattle.tmm_model.specs.Erasure.{is_among}

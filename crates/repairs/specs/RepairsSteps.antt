@@ -2,7 +2,6 @@
 use Rattle.std.specs.Prelude.{◌≡◌, ℕ, Bool, true, false, List, Option, Some, None}
 use Rattle.tmm_model.specs.declared.fix.Fix.{Fix}
 use Rattle.tmm_model.specs.declared.mode.Mode.TheVariants.{Repairs as Mending}
-use Rattle.tmm_model.specs.declared.mode.ModeLine.{ModeLine}
 use Rattle.tmm_model.specs.declared.mode.ModeLine.TheVariants.{Repairs}
 use Rattle.tmm_model.specs.declared.refusal.Refusal.{Refusal}
 use Rattle.tmm_model.specs.declared.turn.Turn.{Turn}

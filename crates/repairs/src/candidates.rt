@@ -1,5 +1,5 @@
 // The candidates for a broken protection, tried one after the other.
-ghost use Rattle.std.specs.Prelude.{◌≡◌, ◌↔◌, IsTrue, ◌<◌, ℕ, false, [], ◌∷◌, None, map, length, slice_get, Some, OnOk, IfOk, IfErr, IfNone, IfSome};
+ghost use Rattle.std.specs.Prelude.{◌≡◌, ◌≢◌, ◌↔◌, IsTrue, ◌<◌, ℕ, false, [], ◌∷◌, None, map, length, slice_get, Some, OnOk, IfOk, IfErr, IfNone, IfSome};
 ghost use Rattle.std.specs.List.{All, Contains, flat_map};
 ghost use Rattle.tmm_model.specs.declared.bound.Bound.TheVariants.{Finite, Free};
 ghost use Rattle.tmm_model.specs.declared.premise.Premise.{Premise as Stated};
@@ -45,7 +45,7 @@ pub fn repairs<M: Copies + Drop>(alloc: Global, core: &mut M, name: Name) -> Res
         Err(refusal) => return Err(Stop::Refused(refusal)),
     };
     let broken = core.check(alloc)?;
-    match broken.items().iter().find(|report| report.name == name) {
+    match report_of(broken.items(), name) {
         Some(report) => {
             let aim = Aim {
                 name,
@@ -55,6 +55,14 @@ pub fn repairs<M: Copies + Drop>(alloc: Global, core: &mut M, name: Name) -> Res
         }
         None => Ok(Seq::make(alloc)),
     }
+}
+
+// The report on the protection of this name.
+fn report_of(broken: &[Report], name: Name) -> Option<&Report>
+    ensures found { IfSome result (λ report. Contains broken.now report.now × (report.now.name ≡ name)) }
+    ensures other { IfNone result (All (λ report. report.name ≢ name) broken.now) }
+{
+    broken.iter().find(|report| report.name == name)
 }
 
 // The repairs among the candidates, where this is found of the protection's fact.

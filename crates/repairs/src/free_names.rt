@@ -8,7 +8,7 @@ ghost use Rattle.repairs.specs.Repairs.{IsFreeName, is_declared, repair_name};
 use arrayvec::ArrayVec;
 use itoa::Buffer;
 use premise_list::Standing;
-use tmm_model::{LONGEST_NAME, Name, Premise};
+use tmm_model::{Name, Premise};
 
 /// The first of the names `repair-0`, `repair-1` and so on that the list does not declare. It takes
 /// no memory.
@@ -61,12 +61,19 @@ fn repair_name(number: usize) -> Name
     ensures value { result ≡ repair_name number }
     ensures named { IsName result }
 {
-    let mut buffer = Buffer::new();
-    let mut bytes = ArrayVec::<u8, LONGEST_NAME>::new();
-    let _fits = bytes.try_extend_from_slice(b"repair-");
-    let _fits = bytes.try_extend_from_slice(buffer.format(number).as_bytes());
-    match Name::of(bytes.as_slice()) {
+    match Name::of(repair_bytes(number).as_slice()) {
         Some(name) => name,
         None => unreachable!(),
     }
+}
+
+// `repair-`, and at most 20 digits.
+fn repair_bytes(number: usize) -> ArrayVec<u8, 27>
+    ensures { result.items ≡ repair_name number }
+{
+    let mut digits = Buffer::new();
+    let mut bytes = ArrayVec::new();
+    let _fits = bytes.try_extend_from_slice(b"repair-");
+    let _fits = bytes.try_extend_from_slice(digits.format(number).as_bytes());
+    bytes
 }

@@ -11,7 +11,7 @@ use Rattle.tmm_model.specs.Lines.{IsWellFormedEdit}
 use Rattle.tmm_model.specs.Standing.{Standing}
 use Rattle.tmm_model.specs.Verdicts.{list_cause}
 use Rattle.repairs.specs.Aims.{GrowsBy}
-use Rattle.repairs.specs.Repairs.{IsRepair, edits_of}
+use Rattle.repairs.specs.Repairs.{IsRepair}
 use Rattle.repairs.proofs.Formed.{formed_added}
 use Rattle.repairs.proofs.Growing.{Grows-fails}
 use Rattle.repairs.proofs.Mending.{one_by_repair}

@@ -1,4 +1,4 @@
-use Rattle.std.proofs.Common.{◌≡◌, sym, ◌∙◌, subst, true}
+use Rattle.std.proofs.Common.{sym, ◌∙◌, subst}
 use Rattle.std.proofs.lemmas.Bool.{false≢true}
 use Rattle.tmm_model.specs.declared.premise.Edit.TheVariants.{Add}
 use Rattle.tmm_model.specs.Standing.{name_of}

@@ -1,9 +1,8 @@
-use Rattle.std.proofs.Common.{◌≡◌, ◌≢◌, sym, ◌∙◌, ap, subst, rules, arith, [], ◌∷◌, length, pos, List}
+use Rattle.std.proofs.Common.{◌≡◌, ◌≢◌, sym, subst, [], List}
 use Rattle.std.specs.Prelude.{OnOk}
 use Rattle.tmm_model.specs.declared.fix.Fix.{Fix}
-use Rattle.tmm_model.specs.Answers.{blame_of}
 use Rattle.repairs.specs.Aims.{GrowsBy}
-use Rattle.repairs.specs.Repairs.{IsRepair, added_against}
+use Rattle.repairs.specs.Repairs.{IsRepair}
 use Rattle.repairs.proofs.Blames.{none_for_derived, one_for_late, one_for_ends, is_nil, not_nil}
 use Rattle.repairs.proofs.Growing.{Grows, Grows-none}
 use Rattle.repairs.proofs.candidates.try_blame.Goals as goal

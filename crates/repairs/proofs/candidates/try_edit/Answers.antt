@@ -1,4 +1,4 @@
-use Rattle.std.proofs.Common.{rules, ◌≡◌, sym, ◌∙◌, true}
+use Rattle.std.proofs.Common.{sym, ◌∙◌}
 use Rattle.std.proofs.lemmas.Bool.{false≢true}
 use Rattle.repairs.specs.Repairs.{IsRepair}
 use Rattle.repairs.proofs.Growing.{Grows-holds, Grows-fails}
