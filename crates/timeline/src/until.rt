@@ -107,11 +107,19 @@ pub(crate) fn note_all(coming: &mut Vec<Coming>, rows: &[Row]) -> Result<(), NoM
     ensures { OnOk result ((q : Held → Bool) → least_by (coming_bound q) coming.new.items ≡ lesser (least_by (row_bound q) rows.now) (least_by (coming_bound q) coming.old.items)) }
 {
     for row in rows {
-        if let Some(held) = row.held {
-            note(coming, &held, row.date)?;
-        }
+        note_row(coming, row)?;
     }
     Ok(())
+}
+
+// Notes the token of a row, if it is of one.
+fn note_row(coming: &mut Vec<Coming>, row: &Row) -> Result<(), NoMemory>
+    ensures { OnOk result ((q : Held → Bool) → least_by (coming_bound q) coming.new.items ≡ lesser (row_bound q row.now) (least_by (coming_bound q) coming.old.items)) }
+{
+    match row.held {
+        Some(held) => note(coming, &held, row.date),
+        None => Ok(()),
+    }
 }
 
 // Notes that a token comes on a date.
