@@ -1,9 +1,8 @@
 -- What ends what holds: the first date behind a day, of tokens that pass.
-use Rattle.std.proofs.Common.{◌≡◌, ◌∙◌, ℕ, zero, suc, ◌+◌, ◌<◌, ◌≤◌, Bool, true, false, ◌&&◌, List, [], ◌∷◌, ◌++◌, map, cond, refl, sym, ap, subst, inl, inr, arith}
+use Rattle.std.proofs.Common.{◌≡◌, ◌∙◌, ℕ, suc, Bool, true, false, ◌&&◌, List, [], ◌∷◌, map, cond, refl, sym, ap, arith}
 use Rattle.std.proofs.lemmas.Int.{ints}
-use Rattle.std.proofs.lemmas.Bool.Decides.{nat_tests}
-use Rattle.std.specs.Prelude.{Option, Some, None, ℤ, pos, ◌≤ℤ◌, ◌<ℤ◌, int_le, int_lt, filter}
-use Rattle.std.specs.List.{filter_map, cons_option}
+use Rattle.std.specs.Prelude.{Option, Some, None, ℤ, pos, ◌≤ℤ◌, int_le, int_lt, filter}
+use Rattle.std.specs.List.{cons_option}
 use Rattle.std.specs.Option.{option_map}
 use Rattle.std.specs.Ordering.{int_eq}
 use Rattle.tmm_model.specs.declared.bound.Bound.{Bound}
@@ -13,7 +12,6 @@ use Rattle.tmm_model.specs.Beliefs.{token_of, tokens, contradicts_in}
 use Rattle.tmm_model.specs.Bounds.{lesser}
 use Rattle.tmm_model.specs.Maps.{TimeMap}
 use Rattle.tmm_model.specs.Moments.{Moment}
-use Rattle.list_theory.proofs.Elements.{In}
 use Rattle.belief_theory.proofs.OneRight.{spot-token_of}
 use Rattle.timeline.specs.declared.row.Held.{Held}
 use Rattle.timeline.specs.declared.row.Row.{Row}

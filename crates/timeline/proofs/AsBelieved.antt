@@ -1,27 +1,26 @@
 -- Where nothing is left open, what occurs is what is believed.
-use Rattle.std.proofs.Common.{◌≡◌, ◌∙◌, ℕ, zero, suc, ◌+◌, ◌≤◌, Bool, true, false, not, ◌&&◌, List, [], ◌∷◌, ◌++◌, map, refl, sym, ap, subst, inl, inr, arith}
+use Rattle.std.proofs.Common.{◌≡◌, ◌∙◌, ℕ, zero, suc, ◌≤◌, Bool, true, false, not, ◌&&◌, List, [], ◌∷◌, map, refl, sym, ap, subst, inl, inr, arith}
 use Rattle.std.proofs.lemmas.Int.{ints}
 use Rattle.std.proofs.lemmas.Bool.Decides.{Decides-int_eq}
-use Rattle.std.specs.Prelude.{◌⊎◌, ◌↔◌, ℤ, pos, negsuc, ◌+ℤ◌, ◌≤ℤ◌, ◌<ℤ◌, filter, Option, Some, None}
+use Rattle.std.specs.Prelude.{◌↔◌, ℤ, pos, negsuc, ◌+ℤ◌, ◌≤ℤ◌, ◌<ℤ◌, filter, Option, Some, None}
 use Rattle.std.specs.Cmp.{both_ways}
 use Rattle.std.specs.List.{Contains, list_any, list_all, flat_map}
 use Rattle.std.specs.Ordering.{ordering_reverse}
 use Rattle.std.specs.declared.cmp.Ordering.TheVariants.{Less}
-use Rattle.tmm_model.specs.declared.bound.Bound.{Bound}
 use Rattle.tmm_model.specs.declared.point.PointName.{PointName}
-use Rattle.tmm_model.specs.declared.point.PointName.TheVariants.{Start, Begin, End}
+use Rattle.tmm_model.specs.declared.point.PointName.TheVariants.{Begin}
 use Rattle.tmm_model.specs.declared.premise.Premise.{Premise}
 use Rattle.tmm_model.specs.declared.premise.Premise.TheVariants.{Class, Kind, Point, Event, Token, Span, Dist, Rule, Protect, Against}
 use Rattle.tmm_model.specs.declared.token.TokenRow.{TokenRow}
 use Rattle.tmm_model.specs.Answers.{row, rows}
-use Rattle.tmm_model.specs.Beliefs.{root_of, roots, rules_at, due, is_free, token_of, tokens, contradicts_in, supported}
+use Rattle.tmm_model.specs.Beliefs.{root_of, roots, rules_at, is_free, token_of, tokens, contradicts_in, supported}
 use Rattle.tmm_model.specs.Firsts.{sorted}
 use Rattle.tmm_model.specs.Maps.{built, order}
 use Rattle.tmm_model.specs.Moments.{Moment, At, After, base, rule_of, distance}
 use Rattle.tmm_model.specs.Points.{same_name}
 use Rattle.tmm_model.specs.Standing.{Standing, points_of, points_in, far_in}
 use Rattle.tmm_model.specs.Tokens.{is_by, is_before, clips, cuts, lasts_to, supports}
-use Rattle.belief_theory.specs.Right.{Occurs, Fires, Belongs, IsRight}
+use Rattle.belief_theory.specs.Right.{Occurs, Belongs, IsRight}
 use Rattle.belief_theory.proofs.OneRight.{one_right, spot-token_of}
 use Rattle.belief_theory.proofs.Order.{IsSpelt, total, ordered}
 use Rattle.belief_theory.proofs.Sorts.{sorted_in, sorted_rising}
@@ -30,11 +29,11 @@ use Rattle.belief_theory.proofs.Spelt.{spelt}
 use Rattle.list_theory.specs.WellNamed.{IsSound}
 use Rattle.list_theory.proofs.Distinct.{Distinct, Distinct-append, Distinct-filter, Distinct-flat_map, Distinct-map, one_order}
 use Rattle.list_theory.proofs.Elements.{In, both, In-from_Contains, Contains-from_In, flat_map-In, In-flat_map, In-map, In-filter, In-filter_map, list_any-In, In-list_any}
-use Rattle.timeline.specs.Days.{date, is_held, is_open, effects_of, brings_about, comes_on, played, played_row, played_rows}
+use Rattle.timeline.specs.Days.{date, is_held, is_open, effects_of, brings_about, comes_on, played_row, played_rows}
 use Rattle.timeline.specs.Laws.{LeavesNothingOpen, played_word, believed_word}
 use Rattle.timeline.proofs.Fixed.{IsDeclared, by_date, before_date}
-use Rattle.timeline.proofs.Lasting.{Lasts, Holds, held, span_of, end_declared}
-use Rattle.timeline.proofs.Played.{known, holding, coming, all, Brings, known-next, known-first, known_cases, known_on, brought, known_occurs, known_all, all_known, all_occur, no_effect}
+use Rattle.timeline.proofs.Lasting.{Lasts, held, span_of, end_declared}
+use Rattle.timeline.proofs.Played.{known, holding, coming, all, Brings, known-next, known-first, known_cases, brought, known_all, all_known, all_occur, no_effect}
 
 -- ---- what occurs has a declared point
 

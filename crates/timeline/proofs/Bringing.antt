@@ -1,5 +1,5 @@
 -- What the rules on events bring about, one after the other, and what it counts.
-use Rattle.std.proofs.Common.{◌≡◌, ◌∙◌, ℕ, zero, suc, ◌+◌, ◌<◌, ◌≤◌, Bool, List, [], ◌∷◌, ◌++◌, map, take, drop, length, refl, sym, ap, subst, inl, inr, append-nil, arith}
+use Rattle.std.proofs.Common.{◌≡◌, ◌∙◌, ℕ, zero, suc, ◌+◌, ◌<◌, ◌≤◌, Bool, List, [], ◌∷◌, ◌++◌, map, take, drop, length, sym, ap, subst, inl, inr, append-nil, arith}
 use Rattle.std.specs.Prelude.{filter, sum_by, slice_index_or}
 use Rattle.std.specs.List.{flat_map}
 use Rattle.std.proofs.lemmas.Grind.{flat_map-append}
@@ -12,13 +12,11 @@ use Rattle.tmm_model.specs.declared.refusal.Stop.TheVariants.{Refused, NoMemory}
 use Rattle.tmm_model.specs.Answers.{weight}
 use Rattle.tmm_model.specs.Maps.{TimeMap}
 use Rattle.tmm_model.specs.Moments.{Moment, After}
-use Rattle.tmm_model.specs.Standing.{Standing}
 use Rattle.list_theory.proofs.Elements.{In}
 use Rattle.timeline.specs.declared.calendar.Calendar.{Calendar}
 use Rattle.timeline.specs.declared.row.Row.{Row}
 use Rattle.timeline.specs.Calendars.{Brought}
 use Rattle.timeline.specs.Days.{brings_about, effects_of}
-use Rattle.timeline.specs.Kinds.{name_at}
 use Rattle.timeline.specs.Rows.{moment}
 use Rattle.timeline.specs.Told.{IsTooLarge}
 use Rattle.timeline.proofs.Calendars.{Brought-then}

@@ -1,6 +1,6 @@
 -- What comes on each day: how it changes.
 use Rattle.std.proofs.Common.{◌≡◌, ◌≢◌, ◌∙◌, ℕ, zero, suc, ◌+◌, ◌<◌, ◌≤◌, Bool, true, false, List, [], ◌∷◌, ◌++◌, map, length, refl, sym, ap, subst, append-nil, append_assoc, arith, cond, inl, inr}
-use Rattle.std.specs.Prelude.{slice_set, slice_index_or, filter, sum_by, pos, int_le}
+use Rattle.std.specs.Prelude.{slice_set, slice_index_or, filter, pos, int_le}
 use Rattle.std.specs.Global.{Vec}
 use Rattle.std.specs.Ordering.{int_eq}
 use Rattle.std.proofs.lemmas.List.{map-append}
@@ -18,7 +18,7 @@ use Rattle.belief_theory.proofs.Moments.{rules-along}
 use Rattle.timeline.specs.declared.calendar.Calendar.{Calendar}
 use Rattle.timeline.specs.declared.row.Row.{Row}
 use Rattle.timeline.specs.Calendars.{rows_on, rows_if, comes_from, AreAllRows, Places, Brought}
-use Rattle.timeline.specs.Days.{date, comes_on}
+use Rattle.timeline.specs.Days.{comes_on}
 use Rattle.timeline.specs.Kinds.{name_at}
 use Rattle.timeline.specs.Rows.{moment, IsRowOf, AreRowsOf}
 use Rattle.timeline.proofs.AtPlaces.{placed as as_many}

@@ -1,7 +1,7 @@
 -- A day played: what is known before the next one.
 use Rattle.std.proofs.Common.{◌≡◌, ◌≢◌, ◌∙◌, ℕ, zero, suc, ◌+◌, ◌<◌, ◌≤◌, Bool, true, false, List, [], ◌∷◌, ◌++◌, map, length, refl, sym, ap, subst, inl, inr, append-nil, arith}
 use Rattle.std.proofs.lemmas.Int.{ints}
-use Rattle.std.specs.Prelude.{ℤ, pos, ◌≤ℤ◌, ◌<ℤ◌, ◌+ℤ◌, int_le, filter, sum_by, cond}
+use Rattle.std.specs.Prelude.{ℤ, pos, ◌≤ℤ◌, ◌<ℤ◌, ◌+ℤ◌, filter, sum_by, cond}
 use Rattle.std.specs.List.{flat_map, Contains}
 use Rattle.std.specs.Ordering.{int_eq}
 use Rattle.std.proofs.lemmas.Bool.{cases_lt}
@@ -11,19 +11,19 @@ use Rattle.std.proofs.lemmas.List.Sums.{sum_by-append}
 use Rattle.tmm_model.specs.declared.refusal.Stop.{Stop}
 use Rattle.tmm_model.specs.declared.token.TokenRow.{TokenRow}
 use Rattle.tmm_model.specs.Answers.{weight, most_size}
-use Rattle.tmm_model.specs.Beliefs.{roots, tokens, rules_at, due}
+use Rattle.tmm_model.specs.Beliefs.{roots, tokens, rules_at}
 use Rattle.tmm_model.specs.Maps.{TimeMap, built}
 use Rattle.tmm_model.specs.Moments.{Moment, After, rule_of}
 use Rattle.tmm_model.specs.Standing.{Standing}
 use Rattle.belief_theory.specs.KeptLists.{IsKept}
-use Rattle.list_theory.proofs.Elements.{In, In-filter, In-map, map-In, In-flat_map, Contains-from_In, both}
+use Rattle.list_theory.proofs.Elements.{In, In-filter, In-map, map-In, In-flat_map, Contains-from_In}
 use Rattle.timeline.specs.declared.calendar.Calendar.{Calendar}
 use Rattle.timeline.specs.declared.row.Held.{Held}
 use Rattle.timeline.specs.declared.row.Row.{Row}
 use Rattle.timeline.specs.Calendars.{rows_on, comes_from, AreAllRows, Brought, IsBefore, AreSame}
-use Rattle.timeline.specs.Days.{Day, date, comes_on, holding_on, is_held, is_open, brings_about, effects_of, next_day, before_day, played}
+use Rattle.timeline.specs.Days.{Day, date, comes_on, holding_on, is_held, brings_about, effects_of, next_day, before_day, played}
 use Rattle.timeline.specs.Holding.{is_held as is_held_here, IsHeldOn}
-use Rattle.timeline.specs.Rows.{moment, held_of, helds, IsRowOf, AreRowsOf}
+use Rattle.timeline.specs.Rows.{moment, held_of, helds, AreRowsOf}
 use Rattle.timeline.specs.Told.{IsTooLarge, StopsTimeline}
 use Rattle.timeline.proofs.Bringing.{too_large-more}
 use Rattle.timeline.proofs.Held.{helds-tokens, same_facts, next_same}

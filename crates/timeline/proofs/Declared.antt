@@ -1,25 +1,25 @@
 -- What premises declare: points that a question may name, and what occurs.
-use Rattle.std.proofs.Common.{◌≡◌, ◌≢◌, ◌∙◌, ℕ, Bool, true, false, ◌||◌, List, [], ◌∷◌, ◌++◌, cond, refl, sym, ap, subst, inl, inr, append_assoc}
-use Rattle.std.specs.Prelude.{Option, Some, None, codes, ℤ, IsSome}
-use Rattle.std.specs.List.{Contains, list_any}
+use Rattle.std.proofs.Common.{◌≡◌, ◌≢◌, ◌∙◌, ℕ, Bool, true, false, List, [], ◌∷◌, ◌++◌, cond, refl, sym, ap, subst, inl, inr, append_assoc}
+use Rattle.std.specs.Prelude.{Option, Some, None, codes}
+use Rattle.std.specs.List.{list_any}
 use Rattle.std.specs.Map.{lookup}
 use Rattle.std.specs.Option.{option_map, option_or}
 use Rattle.std.specs.Cmp.Lexicographic.{bytes_decides}
 use Rattle.std.proofs.lemmas.Grind.{flat_map-append}
 use Rattle.tmm_model.specs.declared.point.PointName.{PointName}
-use Rattle.tmm_model.specs.declared.point.PointName.TheVariants.{Begin, End}
+use Rattle.tmm_model.specs.declared.point.PointName.TheVariants.{Begin}
 use Rattle.tmm_model.specs.declared.premise.Premise.{Premise}
 use Rattle.tmm_model.specs.declared.premise.Premise.TheVariants.{Class, Kind, Point, Event, Token, Span, Dist, Rule, Protect, Against}
 use Rattle.tmm_model.specs.declared.token.Shape.{Shape}
-use Rattle.tmm_model.specs.Beliefs.{as_root, root_of, roots, is_of, token_of, token_at}
-use Rattle.tmm_model.specs.Lines.{IsName, IsWellFormedPoint, IsWellFormedPremise}
+use Rattle.tmm_model.specs.Beliefs.{as_root, root_of, roots, is_of, token_at}
+use Rattle.tmm_model.specs.Lines.{IsName, IsWellFormedPoint}
 use Rattle.tmm_model.specs.Maps.{built}
-use Rattle.tmm_model.specs.Moments.{Moment, At}
+use Rattle.tmm_model.specs.Moments.{At}
 use Rattle.tmm_model.specs.Points.{same_name}
-use Rattle.tmm_model.specs.Sorts.{Sort, a_fact, is_reserved, is_place, declarations_of, declarations_in, sort_in, class_in}
-use Rattle.tmm_model.specs.Standing.{Standing, name_of, points_of, premise_in}
+use Rattle.tmm_model.specs.Sorts.{a_fact, is_reserved, is_place, declarations_of, declarations_in, sort_in}
+use Rattle.tmm_model.specs.Standing.{Standing, name_of, points_of}
 use Rattle.tmm_model.specs.Verdicts.{ill_sorted, place_cause, name_cause, end_cause, words_known, first_taken}
-use Rattle.list_theory.specs.WellNamed.{AllFollow, Follows, IsSound}
+use Rattle.list_theory.specs.WellNamed.{AllFollow, IsSound}
 use Rattle.list_theory.proofs.Elements.{In, Contains-from_In, filter_map-In}
 use Rattle.list_theory.proofs.KnownNames.{found, own_new}
 use Rattle.list_theory.proofs.Places.{first_declared}
@@ -30,7 +30,7 @@ use Rattle.premise_list.proofs.Facts.{sort_in-cons, premise_formed}
 use Rattle.timeline.specs.declared.row.Held.{Held}
 use Rattle.timeline.specs.declared.row.Row.{Row}
 use Rattle.timeline.specs.Days.{date}
-use Rattle.timeline.specs.Rows.{moment, held_of, shape_of, IsRowOf, IsRootRow}
+use Rattle.timeline.specs.Rows.{moment, held_of, shape_of, IsRootRow}
 
 -- ---- names
 

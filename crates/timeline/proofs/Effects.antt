@@ -1,7 +1,7 @@
 -- What the rules of a well-named list bring about: what has a class is a fact, and what has none a kind.
-use Rattle.std.proofs.Common.{◌≡◌, ◌∙◌, inr, Bool, true, false, ◌||◌, cond, ℕ, List, [], ◌∷◌, ◌++◌, map, refl, sym, ap}
+use Rattle.std.proofs.Common.{◌≡◌, ◌∙◌, Bool, true, false, ◌||◌, cond, ℕ, List, [], ◌∷◌, ◌++◌, map, refl, sym, ap}
 use Rattle.std.specs.Prelude.{Option, Some, None, IsSome}
-use Rattle.std.specs.List.{Contains, list_any}
+use Rattle.std.specs.List.{list_any}
 use Rattle.std.specs.Cmp.Lexicographic.{bytes_decides}
 use Rattle.std.proofs.lemmas.List.Folds.{list_any-append}
 use Rattle.std.proofs.Math.Bool.{or-true}
@@ -14,7 +14,7 @@ use Rattle.tmm_model.specs.Sorts.{Sort, a_class, a_fact, a_kind, a_point, an_eve
 use Rattle.tmm_model.specs.Standing.{name_of}
 use Rattle.tmm_model.specs.Verdicts.{first_taken, words_known}
 use Rattle.list_theory.specs.WellNamed.{AllFollow, IsWellNamed}
-use Rattle.list_theory.proofs.Elements.{In, flat_map-In, Contains-from_In}
+use Rattle.list_theory.proofs.Elements.{In}
 use Rattle.list_theory.proofs.WellNamed.{IsNewThen, first_taken-none, words_known-push}
 use Rattle.premise_list.specs.Words.{facts_of, own_sort}
 use Rattle.premise_list.proofs.Lookups.{declarations_parted}

@@ -1,7 +1,7 @@
 -- The entries of all that occurs, the last day first.
-use Rattle.std.proofs.Common.{◌≡◌, ◌∙◌, ℕ, zero, suc, ◌+◌, ◌<◌, ◌≤◌, Bool, true, false, List, [], ◌∷◌, ◌++◌, map, length, refl, sym, ap, subst, inl, inr, append-nil, arith}
+use Rattle.std.proofs.Common.{◌≡◌, ◌∙◌, ℕ, suc, Bool, true, false, List, [], ◌∷◌, ◌++◌, map, refl, sym, ap, subst, inl, inr, arith}
 use Rattle.std.proofs.lemmas.Int.{ints}
-use Rattle.std.proofs.lemmas.Bool.Decides.{Decides-int_eq, nat_tests}
+use Rattle.std.proofs.lemmas.Bool.Decides.{Decides-int_eq}
 use Rattle.std.proofs.lemmas.List.{map-append}
 use Rattle.std.specs.Prelude.{Option, ℤ, pos, ◌≤ℤ◌, int_le, filter}
 use Rattle.std.specs.Option.{option_map_or}
@@ -16,23 +16,21 @@ use Rattle.tmm_model.specs.Moments.{Moment, printed}
 use Rattle.tmm_model.specs.Standing.{Standing}
 use Rattle.list_theory.specs.WellNamed.{IsSound}
 use Rattle.list_theory.proofs.Distinct.{Distinct, Distinct-append, Distinct-filter}
-use Rattle.list_theory.proofs.Elements.{In, In-left, In-right, In-cases, In-filter, filter-In, In-map, map-In}
+use Rattle.list_theory.proofs.Elements.{In, In-left, In-right, In-cases, In-filter, filter-In, map-In}
 use Rattle.belief_theory.specs.Right.{Occurs}
 use Rattle.belief_theory.proofs.Moments.{printed-moment_of}
 use Rattle.belief_theory.proofs.SoundBeliefs.{sound_timed}
-use Rattle.timeline.specs.declared.calendar.Calendar.{Calendar}
 use Rattle.timeline.specs.declared.entry.Entry.{Entry}
 use Rattle.timeline.specs.declared.row.Held.{Held}
 use Rattle.timeline.specs.declared.row.Row.{Row}
 use Rattle.timeline.specs.declared.until.Coming.{Coming}
-use Rattle.timeline.specs.Calendars.{rows_on, comes_from, IsBefore}
+use Rattle.timeline.specs.Calendars.{comes_from}
 use Rattle.timeline.specs.Days.{date, comes_on, played, until}
 use Rattle.timeline.specs.Entries.{occurs_in, IsEntryOf, AreEntriesOf, AddsEntries, IsEntry, AreEntries}
 use Rattle.timeline.specs.Rows.{moment, IsRowOf, AreRowsOf}
 use Rattle.timeline.specs.Until.{least_by, coming_bound, row_bound, until_row, until_later}
 use Rattle.timeline.proofs.Ahead.{Ahead, first_ahead, next_ahead, until_ahead, until_among_later}
 use Rattle.timeline.proofs.Once.{known_occurs, known_once}
-use Rattle.timeline.proofs.Rows.{not_before}
 
 -- ---- the entries of rows
 

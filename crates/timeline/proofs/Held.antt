@@ -1,27 +1,26 @@
 -- What holds, as the code has it: which tokens are the same, and what a list of them tells.
 use Rattle.std.proofs.Common.{◌≡◌, ◌∙◌, ◌⊎◌, inl, inr, ℕ, ◌+◌, ◌<◌, Bool, true, false, ◌&&◌, ◌||◌, not, List, [], ◌∷◌, ◌++◌, map, take, length, refl, sym, ap, subst}
 use Rattle.std.specs.Prelude.{◌↔◌, ℤ, Option, Some, None, filter, cond, slice_index_or}
-use Rattle.std.specs.List.{list_any, filter_map, cons_option}
+use Rattle.std.specs.List.{list_any, cons_option}
 use Rattle.std.specs.Option.{option_map, option_eq}
 use Rattle.std.specs.Ordering.{int_eq}
 use Rattle.std.specs.Cmp.{both_ways}
 use Rattle.std.specs.Cmp.Lexicographic.{bytes_decides}
 use Rattle.std.proofs.lemmas.Bool.Decides.{Decides-int_eq}
-use Rattle.std.proofs.lemmas.List.{map-append, take_more, take_all}
+use Rattle.std.proofs.lemmas.List.{map-append, take_more}
 use Rattle.std.proofs.lemmas.List.Elements.{filter_map-append}
 use Rattle.tmm_model.specs.declared.token.TokenRow.{TokenRow}
-use Rattle.tmm_model.specs.Beliefs.{token_of, tokens, contradicts_in}
+use Rattle.tmm_model.specs.Beliefs.{token_of, tokens}
 use Rattle.tmm_model.specs.Maps.{TimeMap}
 use Rattle.tmm_model.specs.Moments.{Moment}
 use Rattle.tmm_model.specs.Points.{same_name}
-use Rattle.tmm_model.specs.Standing.{Standing}
-use Rattle.list_theory.proofs.Elements.{In, In-cases, In-left, In-right, In-filter, filter-In, In-map, map-In, list_any-In, In-list_any, both}
+use Rattle.list_theory.proofs.Elements.{In, In-cases, In-left, In-right, In-filter, filter-In, list_any-In, In-list_any, both}
 use Rattle.timeline.specs.declared.row.Held.{Held}
 use Rattle.timeline.specs.declared.row.Row.{Row}
 use Rattle.timeline.specs.Calendars.{AreSame}
-use Rattle.timeline.specs.Days.{date, is_contradicted, goes_on, holds_on, holding_on, is_held}
-use Rattle.timeline.specs.Holding.{same_held, is_held as is_held_here, is_contradicted as is_contradicted_here, goes_on as goes_on_here, goes_on_to, IsHeldOn}
-use Rattle.timeline.specs.Rows.{moment, clashes, held_of, helds, IsRowOf, AreRowsOf}
+use Rattle.timeline.specs.Days.{date, goes_on, holds_on, holding_on, is_held}
+use Rattle.timeline.specs.Holding.{same_held, is_held as is_held_here, goes_on as goes_on_here, goes_on_to, IsHeldOn}
+use Rattle.timeline.specs.Rows.{moment, clashes, held_of, helds, AreRowsOf}
 
 -- ---- the same token
 

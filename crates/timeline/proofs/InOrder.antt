@@ -1,7 +1,7 @@
 -- Entries in order are the rows of the timeline.
 use Rattle.std.proofs.Common.{◌≡◌, ◌∙◌, ℕ, zero, suc, ◌<◌, Bool, true, false, List, [], ◌∷◌, map, length, refl, sym, ap, subst, inl, inr, arith}
 use Rattle.std.specs.Prelude.{slice_index_or}
-use Rattle.std.specs.List.{Contains, IsDistinct, AllByRecursion}
+use Rattle.std.specs.List.{IsDistinct, AllByRecursion}
 use Rattle.std.specs.List.Sorted.{IsPermutation, IsSorted}
 use Rattle.std.specs.declared.cmp.Ordering.{Ordering}
 use Rattle.std.specs.declared.cmp.Ordering.TheVariants.{Less, Equal, Greater}
@@ -16,7 +16,7 @@ use Rattle.std.proofs.lemmas.Map.Keys.{apart_from_distinct, IsDistinct-IsPermuta
 use Rattle.tmm_model.specs.declared.timeline.Dated.{Dated}
 use Rattle.tmm_model.specs.Firsts.{sorted}
 use Rattle.tmm_model.specs.Maps.{built, order}
-use Rattle.tmm_model.specs.Moments.{Moment, same_moment, printed}
+use Rattle.tmm_model.specs.Moments.{Moment, same_moment}
 use Rattle.tmm_model.specs.Standing.{Standing, far_in}
 use Rattle.list_theory.specs.WellNamed.{IsSound}
 use Rattle.list_theory.proofs.Distinct.{Distinct, Rising, one_order}
@@ -58,10 +58,10 @@ rising_map : (cmp : Moment → Moment → Ordering) (es : List Entry) → ((i j 
 rising_map cmp [] pairs = tt
 rising_map cmp (x ∷ xs) pairs = (
   λ y at. (
-    let (e, there, is) = In-map occurs_in xs y at in
-    let (k, below, here) = Contains-from_In xs e there in
-    subst (λ z. cmp (occurs_in x) z ≡ Less) is (subst (λ z. cmp (occurs_in x) (occurs_in z) ≡ Less) here (pairs zero (suc k) e (omega arith) (omega arith)))
-  ),
+      let (e, there, is) = In-map occurs_in xs y at in
+      let (k, below, here) = Contains-from_In xs e there in
+      subst (λ z. cmp (occurs_in x) z ≡ Less) is (subst (λ z. cmp (occurs_in x) (occurs_in z) ≡ Less) here (pairs zero (suc k) e (omega arith) (omega arith)))
+      ),
   rising_map cmp xs (λ i j d less below. pairs (suc i) (suc j) d (omega arith) (omega arith)),
 )
 

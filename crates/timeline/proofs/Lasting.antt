@@ -1,28 +1,25 @@
 -- Which tokens hold on a day, said without the day before.
-use Rattle.std.proofs.Common.{◌≡◌, ◌∙◌, ℕ, zero, suc, ◌+◌, ◌-◌, ◌≤◌, Bool, true, false, not, ◌&&◌, List, [], ◌∷◌, ◌++◌, refl, sym, ap, subst, inl, inr, arith}
+use Rattle.std.proofs.Common.{◌≡◌, ◌∙◌, ℕ, zero, suc, ◌≤◌, Bool, true, false, not, List, [], refl, sym, ap, subst, inl, inr, arith}
 use Rattle.std.proofs.lemmas.Int.{ints}
 use Rattle.std.proofs.lemmas.Bool.Decides.{Decides-int_eq}
-use Rattle.std.proofs.lemmas.List.Elements.{All-contains}
-use Rattle.std.specs.Prelude.{◌⊎◌, ◌↔◌, ℤ, pos, negsuc, ◌-ℤ◌, ◌≤ℤ◌, ◌<ℤ◌, int_le, int_lt, filter, Option, Some, None}
-use Rattle.std.specs.List.{Contains, list_any}
+use Rattle.std.specs.Prelude.{◌⊎◌, ◌↔◌, ℤ, pos, negsuc, ◌-ℤ◌, ◌≤ℤ◌, ◌<ℤ◌, int_lt, filter, Option, Some, None}
+use Rattle.std.specs.List.{Contains}
 use Rattle.std.specs.Ordering.{int_eq}
 use Rattle.tmm_model.specs.declared.point.PointName.{PointName}
 use Rattle.tmm_model.specs.declared.point.PointName.TheVariants.{Start, Begin, End}
 use Rattle.tmm_model.specs.declared.premise.Premise.{Premise}
 use Rattle.tmm_model.specs.declared.premise.Premise.TheVariants.{Class, Kind, Point, Event, Token, Span, Dist, Rule, Protect, Against}
-use Rattle.tmm_model.specs.declared.token.Shape.{Shape}
-use Rattle.tmm_model.specs.declared.token.Shape.TheVariants.{Event as AnEvent, Persistence as APersistence, Span as ASpan}
+use Rattle.tmm_model.specs.declared.token.Shape.TheVariants.{Event as AnEvent, Persistence as APersistence}
 use Rattle.tmm_model.specs.declared.token.TokenRow.{TokenRow}
-use Rattle.tmm_model.specs.Beliefs.{as_root, as_effect, is_of, token_at, token_of, tokens, contradicts_in}
+use Rattle.tmm_model.specs.Beliefs.{as_root, as_effect, token_at, token_of, tokens, contradicts_in}
 use Rattle.tmm_model.specs.Maps.{built}
 use Rattle.tmm_model.specs.Moments.{Moment, At, After, rule_of}
 use Rattle.tmm_model.specs.Sorts.{Sort, is_kind, sort_in}
 use Rattle.tmm_model.specs.Standing.{Standing, points_of, points_in, length_step, arc_of, arcs_of, arcs_in, premise_in}
-use Rattle.tmm_model.specs.Walks.{Arc}
 use Rattle.belief_theory.proofs.OneRight.{spot-token_of}
 use Rattle.belief_theory.proofs.SoundBeliefs.{sound_timed}
 use Rattle.list_theory.specs.WellNamed.{IsSound}
-use Rattle.list_theory.proofs.Elements.{In, In-from_Contains, Contains-from_In, In-cases, In-left, In-right, flat_map-In, In-filter, filter-In, In-filter_map, filter_map-In, list_any-In, In-list_any}
+use Rattle.list_theory.proofs.Elements.{In, Contains-from_In, In-cases, In-left, In-right, flat_map-In, In-filter, filter-In, In-filter_map, filter_map-In, list_any-In, In-list_any}
 use Rattle.list_theory.proofs.KnownNames.{finds}
 use Rattle.timeline.specs.Days.{date, comes_on, holds_on, goes_on, is_contradicted}
 use Rattle.timeline.proofs.EarlyDates.{date_met}

@@ -1,10 +1,10 @@
 -- What is known on a day occurs, and no occurrence is known twice.
-use Rattle.std.proofs.Common.{◌≡◌, ◌∙◌, ℕ, zero, suc, Bool, List, [], ◌∷◌, ◌++◌, map, Option, Some, None, refl, sym, ap, subst, inl, inr, arith}
+use Rattle.std.proofs.Common.{◌≡◌, ◌∙◌, ℕ, zero, suc, Bool, List, [], ◌∷◌, ◌++◌, Option, Some, None, refl, sym, ap, subst, inl, inr, arith}
 use Rattle.std.proofs.lemmas.Int.{ints}
 use Rattle.std.specs.Prelude.{ℤ, pos, ◌<ℤ◌, filter}
 use Rattle.std.proofs.lemmas.Bool.Decides.{Decides-int_eq}
 use Rattle.std.specs.Option.{option_map_or}
-use Rattle.std.specs.List.{filter_map, cons_option, flat_map, Contains}
+use Rattle.std.specs.List.{filter_map, cons_option, flat_map}
 use Rattle.std.specs.Cmp.Lexicographic.{bytes_decides}
 use Rattle.tmm_model.specs.declared.point.PointName.TheVariants.{Start, Begin, End}
 use Rattle.tmm_model.specs.declared.premise.Premise.{Premise}
@@ -12,18 +12,17 @@ use Rattle.tmm_model.specs.declared.premise.Premise.TheVariants.{Class, Kind, Po
 use Rattle.tmm_model.specs.declared.token.Shape.{Shape}
 use Rattle.tmm_model.specs.declared.token.Shape.TheVariants.{Event as AnEvent, Persistence as APersistence, Span as ASpan}
 use Rattle.tmm_model.specs.Beliefs.{root_of, roots, is_of, on_kind, rules_for, rules_at, tokens}
-use Rattle.tmm_model.specs.Maps.{TimeMap, built}
+use Rattle.tmm_model.specs.Maps.{built}
 use Rattle.tmm_model.specs.Moments.{Moment, At, After}
 use Rattle.list_theory.specs.WellNamed.{IsSound, AllFollow}
 use Rattle.tmm_model.specs.Standing.{Standing, name_of}
 use Rattle.list_theory.proofs.Distinct.{Distinct, Distinct-append, Distinct-filter, Distinct-map, Distinct-flat_map}
-use Rattle.list_theory.proofs.Elements.{In, In-filter_map, In-right, In-cases, In-flat_map, In-map, In-filter, Contains-from_In, In-from_Contains}
+use Rattle.list_theory.proofs.Elements.{In, In-filter_map, In-right, In-cases, In-flat_map, In-map, In-filter, Contains-from_In}
 use Rattle.belief_theory.specs.Right.{Occurs}
 use Rattle.timeline.specs.Days.{Day, date, comes_on, is_held, holding_on, brings_about, effects_of, before_day}
 use Rattle.timeline.proofs.DayByDay.{next_day-is, first_known-is}
 use Rattle.list_theory.proofs.KnownNames.{fresh}
 use Rattle.belief_theory.proofs.Sound.{named_rule}
-use Rattle.belief_theory.proofs.SoundBeliefs.{sound_timed}
 
 -- what is told of a premise stands once, where it tells the premise's name
 module _ {Y : Type 0} (told : Premise → Option Y) (name : Y → List ℕ) (named : (p : Premise) (y : Y) → told p ≡ Some y → name_of p ≡ name y) where

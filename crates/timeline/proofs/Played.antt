@@ -1,24 +1,21 @@
 -- What comes on which day, and what holds on it, without the day before.
-use Rattle.std.proofs.Common.{◌≡◌, ◌∙◌, ℕ, zero, suc, ◌+◌, ◌-◌, ◌≤◌, Bool, true, false, not, ◌&&◌, List, [], ◌∷◌, ◌++◌, refl, sym, ap, subst, inl, inr, arith}
+use Rattle.std.proofs.Common.{◌≡◌, ℕ, zero, suc, ◌+◌, ◌-◌, ◌≤◌, true, ◌&&◌, List, [], ◌++◌, refl, sym, subst, inl, inr, arith}
 use Rattle.std.proofs.lemmas.Int.{ints}
 use Rattle.std.proofs.lemmas.Bool.Decides.{Decides-int_eq}
-use Rattle.std.specs.Prelude.{◌⊎◌, ◌↔◌, ℤ, pos, ◌+ℤ◌, ◌≤ℤ◌, ◌<ℤ◌, int_le, int_lt, filter, map, Option, Some, None}
-use Rattle.std.specs.List.{Contains, list_any, flat_map}
-use Rattle.std.specs.Ordering.{int_eq}
-use Rattle.tmm_model.specs.declared.point.PointName.TheVariants.{Start, Begin, End}
+use Rattle.std.specs.Prelude.{◌⊎◌, ℤ, pos, ◌+ℤ◌, ◌≤ℤ◌, ◌<ℤ◌, int_le, filter, Some}
+use Rattle.std.specs.List.{flat_map}
 use Rattle.tmm_model.specs.declared.premise.Premise.{Premise}
 use Rattle.tmm_model.specs.declared.premise.Premise.TheVariants.{Class, Kind, Point, Event, Token, Span, Dist, Rule, Protect, Against}
 use Rattle.tmm_model.specs.declared.token.TokenRow.{TokenRow}
-use Rattle.tmm_model.specs.Beliefs.{root_of, roots, rules_at, due, token_of, tokens, contradicts_in}
-use Rattle.tmm_model.specs.Maps.{TimeMap, built}
+use Rattle.tmm_model.specs.Beliefs.{root_of, roots, rules_at, due, tokens}
+use Rattle.tmm_model.specs.Maps.{built}
 use Rattle.tmm_model.specs.Moments.{Moment, At, After, early, rule_of}
 use Rattle.tmm_model.specs.Standing.{Standing, far_in}
-use Rattle.belief_theory.specs.Right.{Occurs, IsTimed}
-use Rattle.belief_theory.proofs.OneRight.{spot-token_of}
+use Rattle.belief_theory.specs.Right.{Occurs}
 use Rattle.belief_theory.proofs.SoundBeliefs.{sound_timed}
 use Rattle.list_theory.specs.WellNamed.{IsSound}
-use Rattle.list_theory.proofs.Elements.{In, both, In-from_Contains, Contains-from_In, In-left, In-right, In-cases, In-flat_map, flat_map-In, In-map, map-In, In-filter, filter-In, In-filter_map, filter_map-In, list_any-In, In-list_any}
-use Rattle.timeline.specs.Days.{Day, date, comes_on, is_held, is_open, brings_about, effects_of, before_day, holding_on, holds_on, goes_on, is_contradicted, played}
+use Rattle.list_theory.proofs.Elements.{In, both, Contains-from_In, In-left, In-right, In-cases, In-flat_map, flat_map-In, In-map, map-In, In-filter, filter-In, In-filter_map}
+use Rattle.timeline.specs.Days.{date, comes_on, is_held, is_open, brings_about, effects_of, before_day, holds_on, played}
 
 -- no effect is declared to occur
 pub no_effect : (s : Standing) (t : Moment) (r : List ℕ) → In (After t r) (roots s) → ⊥

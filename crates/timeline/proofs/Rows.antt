@@ -1,23 +1,22 @@
 -- What the rows say of what occurs.
-use Rattle.std.proofs.Common.{◌≡◌, ◌∙◌, ℕ, List, [], ◌∷◌, refl, sym, ap, subst, inl, inr}
-use Rattle.std.specs.Prelude.{Option, Some, None, ℤ, pos, ◌+ℤ◌, ◌≤ℤ◌}
+use Rattle.std.proofs.Common.{◌≡◌, ◌∙◌, ℕ, List, [], refl, sym, ap, subst, inl, inr}
+use Rattle.std.specs.Prelude.{Option, Some, None, pos, ◌+ℤ◌, ◌≤ℤ◌}
 use Rattle.std.specs.List.{Contains}
 use Rattle.std.specs.Option.{option_map}
 use Rattle.tmm_model.specs.declared.premise.Premise.{Premise}
 use Rattle.tmm_model.specs.declared.premise.Premise.TheVariants.{Class, Kind, Point, Event, Token, Span, Dist, Rule, Protect, Against}
 use Rattle.tmm_model.specs.declared.token.Shape.{Shape}
-use Rattle.tmm_model.specs.Beliefs.{as_effect, is_of, token_of, token_at, rules_at, class_of, on_kind, due}
-use Rattle.tmm_model.specs.Maps.{TimeMap, built}
+use Rattle.tmm_model.specs.Beliefs.{as_effect, is_of, token_of, token_at, rules_at, class_of, on_kind}
+use Rattle.tmm_model.specs.Maps.{built}
 use Rattle.tmm_model.specs.Moments.{Moment, After, as_rule, rule_of}
-use Rattle.tmm_model.specs.Sorts.{is_effect, class_in, sort_in, a_name, uses_of}
-use Rattle.tmm_model.specs.Standing.{Standing, premise_in, far_in}
+use Rattle.tmm_model.specs.Sorts.{class_in, sort_in}
+use Rattle.tmm_model.specs.Standing.{Standing, premise_in}
 use Rattle.list_theory.specs.WellNamed.{IsSound}
 use Rattle.list_theory.proofs.Elements.{In}
 use Rattle.list_theory.proofs.KnownNames.{found}
 use Rattle.belief_theory.specs.Right.{Occurs}
 use Rattle.belief_theory.proofs.Sound.{rule_stands}
 use Rattle.belief_theory.proofs.SoundBeliefs.{sound_timed}
-use Rattle.timeline.specs.declared.row.Held.{Held}
 use Rattle.timeline.specs.declared.row.Row.{Row}
 use Rattle.timeline.specs.Days.{date}
 use Rattle.timeline.specs.Rows.{moment, held_of, held_with, held_from, shape_of, IsRowOf}

@@ -1,23 +1,21 @@
 -- The premises of a list gone through: the points that they declare, and what they declare to occur.
-use Rattle.std.proofs.Common.{◌≡◌, ◌∙◌, ℕ, suc, ◌+◌, ◌<◌, ◌≤◌, List, [], ◌∷◌, ◌++◌, map, take, length, refl, sym, ap, subst, append-nil, add-one, arith}
+use Rattle.std.proofs.Common.{◌≡◌, ◌∙◌, ℕ, suc, ◌+◌, ◌<◌, ◌≤◌, List, [], ◌∷◌, ◌++◌, map, take, length, sym, ap, subst, append-nil, add-one, arith}
 use Rattle.std.specs.Prelude.{Some, slice_get, sum_by, filter}
 use Rattle.std.specs.List.{filter_map, flat_map}
 use Rattle.std.proofs.lemmas.Grind.{flat_map-append}
 use Rattle.std.proofs.lemmas.List.{map-append}
 use Rattle.std.proofs.lemmas.List.Elements.{filter_map-append}
 use Rattle.std.proofs.lemmas.List.Sums.{sum_by-append}
-use Rattle.tmm_model.specs.declared.point.PointName.{PointName}
 use Rattle.tmm_model.specs.declared.premise.Premise.{Premise}
 use Rattle.tmm_model.specs.declared.refusal.Stop.{Stop}
 use Rattle.tmm_model.specs.Answers.{weight}
 use Rattle.tmm_model.specs.Beliefs.{root_of, roots}
 use Rattle.tmm_model.specs.Maps.{built}
-use Rattle.tmm_model.specs.Moments.{Moment}
 use Rattle.tmm_model.specs.Standing.{Standing, points_of}
 use Rattle.list_theory.proofs.Elements.{In}
 use Rattle.timeline.specs.declared.calendar.Calendar.{Calendar}
 use Rattle.timeline.specs.Calendars.{rows_on, comes_from, Brought, IsBefore}
-use Rattle.timeline.specs.Days.{Day, comes_on, before_day, played, point_date}
+use Rattle.timeline.specs.Days.{comes_on, before_day, played, point_date}
 use Rattle.timeline.specs.Rows.{moment}
 use Rattle.timeline.specs.Told.{IsTooLarge, StopsTimeline}
 use Rattle.timeline.proofs.AtPlaces.{taken}

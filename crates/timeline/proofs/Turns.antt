@@ -1,5 +1,5 @@
 -- The turn of a line `timeline`.
-use Rattle.std.proofs.Common.{◌≡◌, ℕ, ◌<◌, ◌≤◌, true, false, [], refl}
+use Rattle.std.proofs.Common.{ℕ, ◌<◌, ◌≤◌, true, false, [], refl}
 use Rattle.mode_session.specs.ModeSteps.{OwnStep}
 use Rattle.replies.specs.Timelines.{timeline_text}
 use Rattle.tmm_model.specs.declared.mode.ModeLine.TheVariants.{Timeline as TheTimeline}

@@ -1,5 +1,5 @@
 -- The timelines of two worked scripts.
-use Rattle.std.proofs.Common.{◌≡◌, ℕ, List, [], ◌∷◌, pos}
+use Rattle.std.proofs.Common.{◌≡◌, List, [], ◌∷◌, pos}
 use Rattle.std.specs.Prelude.{codes, Some, None}
 use Rattle.tmm_model.specs.declared.bound.Bound.TheVariants.{Finite, Free}
 use Rattle.tmm_model.specs.declared.point.PointName.TheVariants.{Start, Begin}

@@ -1,5 +1,5 @@
 -- What happens where each point comes at its earliest date, day by day.
-use Rattle.std.specs.Prelude.{ℕ, zero, suc, ◌+◌, ℤ, pos, int_le, int_lt, Bool, not, ◌&&◌, List, [], ◌∷◌, ◌++◌, map, filter, sum_by, Option, Some, None}
+use Rattle.std.specs.Prelude.{ℕ, zero, suc, ℤ, pos, int_le, int_lt, Bool, not, ◌&&◌, List, [], ◌∷◌, ◌++◌, map, filter, sum_by, Option, Some, None}
 use Rattle.std.specs.List.{list_any, list_all, flat_map}
 use Rattle.std.specs.Option.{option_map, option_map_or}
 use Rattle.std.specs.Ordering.{int_eq}

@@ -1,5 +1,5 @@
 -- The occurrences of a timeline in their order, as the code has them.
-use Rattle.std.specs.Prelude.{◌≡◌, ◌↔◌, ℕ, List, [], ◌∷◌, ◌++◌, map, Option}
+use Rattle.std.specs.Prelude.{◌≡◌, List, [], ◌∷◌, ◌++◌, map, Option}
 use Rattle.std.specs.List.Sorted.{IsPermutation, IsSorted}
 use Rattle.std.specs.declared.cmp.Ordering.{Ordering}
 use Rattle.std.specs.Ordering.{int_cmp, nat_cmp, on, then_cmp, eq_by_cmp}
@@ -16,7 +16,7 @@ use Rattle.list_theory.proofs.Distinct.{Distinct}
 use Rattle.list_theory.proofs.Elements.{In}
 use Rattle.timeline.specs.declared.entry.Entry.{Entry}
 use Rattle.timeline.specs.declared.row.Row.{Row}
-use Rattle.timeline.specs.Days.{Played, played, played_row}
+use Rattle.timeline.specs.Days.{played, played_row}
 use Rattle.timeline.specs.Rows.{moment}
 use Rattle.timeline.specs.Told.{row_of}
 

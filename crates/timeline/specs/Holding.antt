@@ -1,5 +1,5 @@
 -- What holds on a day, as the code has it: each token that holds once.
-use Rattle.std.specs.Prelude.{◌≡◌, ◌⊎◌, ◌↔◌, ℕ, ℤ, pos, int_lt, Bool, not, ◌&&◌, List, filter, Option, Some, None}
+use Rattle.std.specs.Prelude.{◌⊎◌, ◌↔◌, ℕ, ℤ, pos, int_lt, Bool, not, ◌&&◌, List, filter, Option, Some, None}
 use Rattle.std.specs.List.{list_any, list_all}
 use Rattle.std.specs.Option.{option_eq}
 use Rattle.std.specs.Ordering.{int_eq}

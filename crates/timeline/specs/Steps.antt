@@ -1,7 +1,6 @@
 -- The step of a script with the timeline.
 use Rattle.std.specs.Prelude.{◌≡◌, ℕ, ◌<◌, ◌≤◌, Bool, true, false, List, Option, None}
 use Rattle.tmm_model.specs.declared.mode.Mode.TheVariants.{Timeline as Playing}
-use Rattle.tmm_model.specs.declared.mode.ModeLine.{ModeLine}
 use Rattle.tmm_model.specs.declared.mode.ModeLine.TheVariants.{Timeline as TheTimeline}
 use Rattle.tmm_model.specs.declared.refusal.Refusal.TheVariants.{LimitSize}
 use Rattle.tmm_model.specs.declared.timeline.Timeline.{Timeline}

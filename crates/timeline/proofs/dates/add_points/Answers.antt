@@ -6,7 +6,6 @@ use Rattle.std.proofs.lemmas.List.{map-append, take_more, take_all}
 use Rattle.tmm_model.specs.declared.point.PointName.{PointName}
 use Rattle.tmm_model.specs.Maps.{built}
 use Rattle.tmm_model.specs.Moments.{At}
-use Rattle.tmm_model.specs.Standing.{points_of}
 use Rattle.list_theory.proofs.Elements.{In}
 use Rattle.timeline.specs.Days.{date, point_date}
 use Rattle.timeline.specs.Told.{date_of}

@@ -1,4 +1,4 @@
-use Rattle.std.proofs.Common.{◌≡◌, ◌∙◌, ◌⊎◌, inl, inr, take, sym, ap, subst, arith}
+use Rattle.std.proofs.Common.{◌⊎◌, subst, arith}
 use Rattle.std.specs.Prelude.{◌↔◌, filter}
 use Rattle.std.proofs.lemmas.List.{take_all}
 use Rattle.list_theory.proofs.Elements.{In}

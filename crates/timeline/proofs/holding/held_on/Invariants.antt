@@ -2,7 +2,7 @@ use Rattle.std.proofs.Common.{◌⊎◌, take}
 use Rattle.std.specs.Prelude.{◌↔◌, filter}
 use Rattle.list_theory.proofs.Elements.{In}
 use Rattle.timeline.specs.declared.row.Held.{Held}
-use Rattle.timeline.specs.Holding.{goes_on, IsHeldOn}
+use Rattle.timeline.specs.Holding.{goes_on}
 use Rattle.timeline.proofs.holding.held_on.Given as goal
 
 abbrev pub invariant-loop-held : goal.invariant-loop-held

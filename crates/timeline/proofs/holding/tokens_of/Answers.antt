@@ -1,5 +1,4 @@
-use Rattle.std.proofs.Common.{◌≡◌, ◌∙◌, ◌++◌, ◌∷◌, [], sym, ap, append-nil, take}
-use Rattle.std.specs.Prelude.{Some, None}
+use Rattle.std.proofs.Common.{◌∙◌, ◌++◌, ◌∷◌, [], sym, ap, append-nil, take}
 use Rattle.std.specs.List.{cons_option}
 use Rattle.timeline.specs.Rows.{helds}
 use Rattle.timeline.proofs.Held.{helds_more}

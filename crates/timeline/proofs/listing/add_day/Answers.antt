@@ -1,9 +1,8 @@
-use Rattle.std.proofs.Common.{subst, sym, arith}
+use Rattle.std.proofs.Common.{subst, arith}
 use Rattle.std.proofs.lemmas.List.{take_all}
 use Rattle.timeline.specs.Entries.{IsEntryOf, AddsEntries}
 use Rattle.timeline.specs.Until.{until_row}
 use Rattle.timeline.proofs.Adding.{adds_none, adds_more}
-use Rattle.timeline.proofs.Ahead.{until_ahead}
 use Rattle.timeline.proofs.listing.add_day.Goals as goal
 
 pub loop-row-init : goal.loop-row-init

@@ -1,4 +1,4 @@
-use Rattle.std.proofs.Common.{subst, sym, arith}
+use Rattle.std.proofs.Common.{subst, arith}
 use Rattle.std.proofs.lemmas.List.{take_all}
 use Rattle.timeline.specs.Entries.{IsEntryOf, AddsEntries}
 use Rattle.timeline.specs.Until.{until_later}

@@ -1,4 +1,3 @@
-use Rattle.std.proofs.Common.{◌≡◌}
 use Rattle.tmm_model.specs.Maps.{built}
 use Rattle.timeline.specs.Calendars.{IsBefore, AreHeldBefore}
 use Rattle.timeline.proofs.playing.play.Given as goal

@@ -1,6 +1,6 @@
-use Rattle.std.proofs.Common.{◌≡◌, ◌∙◌, ap, ◌++◌, ◌∷◌, []}
+use Rattle.std.proofs.Common.{◌∙◌, ap}
 use Rattle.tmm_model.specs.declared.point.PointName.TheVariants.{Begin}
-use Rattle.tmm_model.specs.Moments.{Moment, At, After, along}
+use Rattle.tmm_model.specs.Moments.{At, After, along}
 use Rattle.belief_theory.proofs.Moments.{along-push}
 use Rattle.timeline.proofs.rule.after.Goals as goal
 

@@ -1,9 +1,5 @@
-use Rattle.std.proofs.Common.{◌≡◌, ◌∙◌, sym, ap, subst, rules, w64, arith}
-use Rattle.std.specs.Prelude.{FitsSigned, ◌+ℤ◌}
-use Rattle.std.specs.List.{Contains}
-use Rattle.std.proofs.lemmas.Int.{ints, to_z-of_z}
-use Rattle.tmm_model.specs.Beliefs.{rules_at}
-use Rattle.tmm_model.specs.Moments.{rule_of}
+use Rattle.std.proofs.Common.{◌∙◌, ap, rules}
+use Rattle.std.specs.Prelude.{◌+ℤ◌}
 use Rattle.timeline.specs.Rows.{held_from}
 use Rattle.timeline.proofs.Rows.{effect_row}
 use Rattle.timeline.proofs.rule.effect_of.Goals as goal

@@ -1,11 +1,8 @@
-use Rattle.std.proofs.Common.{◌≡◌, ◌∙◌, Bool, take, refl, sym, ap, arith, rules, w64}
-use Rattle.std.specs.Prelude.{FitsSigned}
-use Rattle.std.proofs.lemmas.Int.{to_z-of_z}
+use Rattle.std.proofs.Common.{◌∙◌, take, refl, sym, ap, arith}
 use Rattle.std.proofs.lemmas.List.{take_all}
 use Rattle.tmm_model.specs.Bounds.{lesser}
-use Rattle.timeline.specs.declared.row.Held.{Held}
-use Rattle.timeline.specs.Until.{least_by, coming_bound, row_bound, held_bound, bound_if}
-use Rattle.timeline.proofs.Leasts.{least_by_more, lesser_assoc, lesser_swap, lesser-free}
+use Rattle.timeline.specs.Until.{least_by, coming_bound, row_bound}
+use Rattle.timeline.proofs.Leasts.{least_by_more, lesser_assoc, lesser_swap}
 use Rattle.timeline.proofs.until.note_all.Goals as goal
 
 pub loop-row-init : goal.loop-row-init
