@@ -155,7 +155,7 @@ fn expect_with(
 #[test]
 fn other_words_get_the_usage_line(rt: HostRuntime) -> Result<(), Fail> {
     let alloc = rt.alloc();
-    let wrong: [&[&str]; 9] = [
+    let wrong: [&[&str]; 10] = [
         &["x"],
         &["demo"],
         &["demo", "0"],
