@@ -20,11 +20,12 @@ RUNS = 3
 
 
 class Case(NamedTuple):
-    """A line of a kind, behind a map that is told in words."""
+    """A line of a kind, behind a map that is told in words, in the mode of a word, if there is one."""
 
     map: str
     before: List[str]
     line: str
+    mode: str = ""
 
 
 def chain(points: int, name: str = "p") -> List[str]:
@@ -117,6 +118,14 @@ def broken(protections: int) -> List[str]:
     return lines + [f"protect x{i} f start start" for i in range(protections)]
 
 
+def loose(points: int, protections: int, constraints: int) -> List[str]:
+    """Constraints with two numbers, and protections of a fact whose token is clipped before them."""
+    lines = ["class c f g", "token t f", "token u g", "dist ts start t 0 0", "dist us start u 2 2"]
+    lines += [f"point p{i}" for i in range(points)]
+    lines += [f"dist d{i} start p{i % points} {i % 7} {20 + i % 11}" for i in range(constraints)]
+    return lines + [f"protect x{i} f p{i % points} p{i % points}" for i in range(protections)]
+
+
 def cases(part: int) -> List[Tuple[str, Case]]:
     crowd = crowded(100 // part, 300 // part, 80 // part)
     full = [*crowd, "horizon 1000"]
@@ -175,6 +184,9 @@ def cases(part: int) -> List[Tuple[str, Case]]:
         ("list", Case("eleven classes", made, "list")),
         ("dump", Case("eleven classes", made, "dump")),
         ("audit", Case("eleven classes", made, "audit")),
+        ("timeline", Case("crowded", full, "timeline", "timeline")),
+        ("timeline", Case("contradicting", many, "timeline", "timeline")),
+        ("repairs", Case("constraints with two numbers", loose(240 // part, 40 // part, 1700 // part), "repairs x0", "repairs")),
     ]
 
 
@@ -188,8 +200,8 @@ class Run(NamedTuple):
 class Session:
     """The program with its pipes. A question behind other lines shows when they are answered."""
 
-    def __init__(self) -> None:
-        self.program = subprocess.Popen([PROGRAM], stdin=subprocess.PIPE, stdout=subprocess.PIPE, bufsize=0)
+    def __init__(self, mode: str) -> None:
+        self.program = subprocess.Popen([PROGRAM, *mode.split()], stdin=subprocess.PIPE, stdout=subprocess.PIPE, bufsize=0)
         self.lines = 0
         self.output = bytearray()
         self.more = threading.Condition()
@@ -227,7 +239,7 @@ class Session:
 
 def run(case: Case) -> Run:
     """One run: the processor time of the line alone, its reply, and the most memory."""
-    session = Session()
+    session = Session(case.mode)
     before = session.say(case.before)
     started = session.seconds()
     reply = session.say([case.line])
